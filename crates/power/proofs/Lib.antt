@@ -1,0 +1,6 @@
+mod Squaring
+mod Largest
+mod Inverses
+mod Euclid
+mod Keys
+pub mod Laws

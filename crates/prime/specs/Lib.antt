@@ -1,0 +1,2 @@
+-- What the contracts of the prime field cite.
+pub mod Prime
