@@ -1,6 +1,7 @@
 // How a cipher refuses.
 ghost use mathlib.Core.Path.{_≡_};
 ghost use Rattle.cipher.specs.Refusals.{refusal-of};
+use refusal::Refusal;
 
 #[derive(Clone, Copy, PartialEq, Eq, Debug)]
 pub enum CipherFault {
@@ -8,14 +9,6 @@ pub enum CipherFault {
     NotValue { place: u8, value: u32 },
     NoCard(u8),
     UnlawfulKey(u32),
-}
-
-// A refusal as it is told: its number, and what is returned with it.
-#[derive(Clone, Copy, PartialEq, Eq, Debug)]
-pub struct Refusal {
-    pub number: u8,
-    pub first: Option<u64>,
-    pub second: Option<u64>,
 }
 
 impl CipherFault {

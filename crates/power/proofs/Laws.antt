@@ -29,7 +29,7 @@ module _ (f : FieldMeaning) (laws : FieldLaws f) where
   undo k v lawful h =
       let d = inverse k (f .order) in
       let whole : k * d ≡ 1 + f .order * (k * d / f .order) = omega (arith, div-add-mod (k * d) (f .order), lawful .undo-leaves) in
-      power-power f laws v k d h ∙ ap (power (f .times) v) whole ∙ power-around f laws v (k * d / f .order) h
+      power-power (laws .monoid) v h k d ∙ ap (power (f .times) v) whole ∙ power-around f laws v (k * d / f .order) h
 
   -- a power of a value is not 0, since the undo key gives the value back
   not-zero : (k v : ℕ) → Key (f .order) k → Number f v → 0 < v → power (f .times) v k ≡ 0 → ⊥
@@ -45,10 +45,10 @@ module _ (f : FieldMeaning) (laws : FieldLaws f) where
     last-fits = omega (arith, laws .order-fits);
     last-lawful = last-lawful (f .order) (laws .order-least);
     mark-fits = laws .mark-fits;
-    locked = λ k v tk tv. let n = value-number v tv in number-value (power (f .times) v k) (not-zero k v (key k tk) (n .1) (n .0)) (power-number f laws v k (n .1));
+    locked = λ k v tk tv. let n = value-number v tv in number-value (power (f .times) v k) (not-zero k v (key k tk) (n .1) (n .0)) (power-number (laws .monoid) v (n .1) k);
     undo-lawful = λ k t. undo-lawful (f .order) (laws .order-least) k (key k t);
     undone = λ k v tk tv. undo k v (key k tk) (value-number v tv .1);
-    commute = λ j k v tj tk tv. power-commutes f laws v k j (value-number v tv .1);
-    coded = λ c h. number-value (power (f .times) (f .base) (c + 1)) (laws .powers-not-zero c h) (power-number f laws (f .base) (c + 1) (laws .base-number));
+    commute = λ j k v tj tk tv. power-commutes (laws .monoid) v (value-number v tv .1) k j;
+    coded = λ c h. number-value (power (f .times) (f .base) (c + 1)) (laws .powers-not-zero c h) (power-number (laws .monoid) (f .base) (laws .base-number) (c + 1));
     codes-differ = laws .powers-differ;
   }

@@ -1,0 +1,6 @@
+mod Xor
+mod Additive
+mod Multiples
+mod Remainders
+mod Products
+mod Frobenius
