@@ -4,3 +4,4 @@ mod Multiples
 mod Remainders
 mod Products
 mod Frobenius
+pub mod Laws

@@ -22,3 +22,16 @@ largest-is test (suc n) m below passes above =
                 ∙ largest-is test n m (omega arith) passes (λ j h l. above j h (omega arith))
           ]
     ]
+
+pub largest-least : (test : ℕ → Bool) (n j : ℕ) → j < n → test j ≡ true → j ≤ largest test n
+unfolding largest
+largest-least test zero j below passes = omega arith
+largest-least test (suc n) j below passes =
+    elim (cases-bool (test n)) [
+      | inl yes-n ↦ let is = cond-true (test n) n (largest test n) yes-n in omega arith
+      | inr no-n ↦
+          let other : j ≡ n → ⊥ = λ same. true≢false (sym passes ∙ ap test same ∙ no-n) in
+          let is = cond-false (test n) n (largest test n) no-n in
+          let least = largest-least test n j (omega arith) passes in
+          omega arith
+    ]

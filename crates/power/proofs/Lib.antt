@@ -4,3 +4,4 @@ mod Inverses
 mod Euclid
 mod Keys
 pub mod Laws
+pub mod Computing

@@ -1,6 +1,6 @@
--- The lemmas behind the laws of the prime field.
-pub mod Primality
-pub mod Euclid
-pub mod Binomial
-pub mod Fermat
-pub mod Powers
+mod Primality
+mod Euclid
+mod Binomial
+mod Fermat
+mod Powers
+pub mod Laws
