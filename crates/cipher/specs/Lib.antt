@@ -1,3 +1,4 @@
 pub mod Refusals
 pub mod Cipher
 pub mod Answers
+pub mod Decks

@@ -3,6 +3,7 @@ pub mod fault;
 
 ghost use mathlib.Core.Path.{_≡_};
 ghost use Rattle.cipher.specs.Cipher.{CipherMeaning, CipherLaws};
+ghost use Rattle.cipher.specs.Decks.{deck-answer};
 ghost use Rattle.cipher.specs.Answers.{lock-answer, undo-answer, code-answer, Reads};
 use fault::CipherFault;
 
@@ -53,4 +54,19 @@ pub fn read_card<C: Cipher>(cipher: &C, value: u32) -> Option<u8>
         }
     }
     None
+}
+
+// Refuses a deck that holds a number which is no value, by the lowest place of such a one.
+pub fn check_deck<C: Cipher>(cipher: &C, deck: &[u32]) -> Result<(), CipherFault>
+    ensures { λ r. ⌜ r ≡ deck-answer (meaning (now (cipher .entry))) 0 (now (deck .entry)) ⌝ }
+{
+    for (place, value) in deck.iter().enumerate() {
+        if !cipher.is_value(*value) {
+            return Err(CipherFault::NotValue {
+                place,
+                value: *value,
+            });
+        }
+    }
+    Ok(())
 }

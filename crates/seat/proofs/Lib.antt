@@ -1,0 +1,2 @@
+mod Locking
+pub mod Generating
