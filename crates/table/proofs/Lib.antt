@@ -1,0 +1,5 @@
+mod Searching
+mod Soundness
+mod Different
+mod Draws
+mod Running
