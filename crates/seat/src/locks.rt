@@ -18,7 +18,7 @@ use permutation::fill;
 use permutation::rearrange;
 
 // Refused, it leaves a target of blanks.
-pub fn lock_deck<C: Cipher>(
+pub(crate) fn lock_deck<C: Cipher>(
     cipher: &C,
     key: u32,
     order: &[u8],

@@ -14,14 +14,14 @@ const FACTOR: u64 = 16807;
 const MODULUS: u64 = 2147483647;
 
 // The number drawn after z.
-pub fn drawn_after(z: u32) -> u32
+pub(crate) fn drawn_after(z: u32) -> u32
     ensures { λ r. ⌜ r ≡ drawn z ⌝ }
 {
     (FACTOR * u64::from(z) % MODULUS) as u32
 }
 
 // The next lawful key from a number on, or from 1 on if it is above the last key.
-pub fn next_lawful<C: Cipher>(cipher: &C, first: u32) -> u32
+pub(crate) fn next_lawful<C: Cipher>(cipher: &C, first: u32) -> u32
     ensures meant { λ r. ⌜ r ≡ lawful-from (C·Cipher .meaning (now (cipher .entry))) first ⌝ }
     ensures lawful { λ r. ⌜ Lawful (C·Cipher .meaning (now (cipher .entry))) r ⌝ }
 {
@@ -34,7 +34,7 @@ pub fn next_lawful<C: Cipher>(cipher: &C, first: u32) -> u32
 }
 
 // Fills the order with its own places, and shuffles it by the numbers drawn after z.
-pub fn shuffle(z: u32, order: &mut [u8])
+pub(crate) fn shuffle(z: u32, order: &mut [u8])
     requires { ⌜ length (now order) ≤ 52 ⌝ }
     ensures { λ _. ⌜ now (order .exit) ≡ shuffled (length (now (order .entry)) - 1) z (upto (length (now (order .entry)))) ⌝ }
 {

@@ -1,0 +1,2 @@
+-- The lemmas.
+mod Cards
