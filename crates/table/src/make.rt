@@ -47,6 +47,14 @@ impl Table {
         Ok(Table { held })
     }
 
+    // A new table in the place of this one; refused, this one stays.
+    pub fn restart(&mut self, heap: Global, seats: u8, cards: u8) -> Result<(), TableFault>
+        ensures { λ r. ⌜ Cases r (λ _. (within-limits seats cards ≡ true) × (state-of (now (self .exit)) ≡ empty-table seats cards)) (λ e. (e ≡ cond (within-limits seats cards) NoMemory OutsideLimits) × (state-of (now (self .exit)) ≡ state-of (now (self .entry)))) ⌝ }
+    {
+        *self = Table::start(heap, seats, cards)?;
+        Ok(())
+    }
+
     // Makes one call of a list: the phase and the call together decide.
     pub fn make<C: Cipher>(&mut self, cipher: &C, call: &Call) -> Result<usize, TableFault>
         ensures answer { λ r. ⌜ r ≡ judge (C·Cipher .meaning (now (cipher .entry))) (state-of (now (self .entry))) (move-of (now (call .entry))) ⌝ }

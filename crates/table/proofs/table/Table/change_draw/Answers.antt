@@ -1,4 +1,3 @@
-use borrow.Author.Needs.{needs}
 use Prim.Native.Nat.{_<_}
 use native.Mathlib.Omega.{arith}
 use lib.ListN.{length}
@@ -15,8 +14,9 @@ push-reserved-requires c κs =
 pub ghost-self : need.ghost-self
 ghost-self c =
     let t = c .args .self .now in
+    let s = sound-table t in
     let below : c .args .number < length (vec-items (t .held .draws)) = omega (arith, c .pre .within, t .held .draws .ok .0) in
-    let fair-now = still-fair (t .held) (sound-table t) (c .args .number) (c .args .changed) below (c .pre .place) (c .pre .fair) (c .pre .more) in
-    let different-now = still-different (t .held) (sound-table t) (c .args .number) (c .args .changed) below (c .pre .place) (c .pre .fair) (c .pre .more) in
-    let more = one-more (t .held) (sound-table t) (c .args .number) (c .args .changed) below (c .pre .place) (c .pre .fair) (c .pre .more) in
-    (search needs, (search needs, (search needs, (search needs, (search needs, (search needs, (search needs, (fair-now, (different-now, (search needs, (omega (arith, more, c .push-reserved .ensures .len, sound-table t .moves-long), (search needs, (search needs, (search needs, (search needs, search needs)))))))))))))))
+    let fair-now = still-fair (t .held) s (c .args .number) (c .args .changed) below (c .pre .place) (c .pre .fair) (c .pre .more) in
+    let different-now = still-different (t .held) s (c .args .number) (c .args .changed) below (c .pre .place) (c .pre .fair) (c .pre .more) in
+    let more = one-more (t .held) s (c .args .number) (c .args .changed) below (c .pre .place) (c .pre .fair) (c .pre .more) in
+    (s .seats-least, (s .seats-most, (s .cards-least, (s .cards-most, (s .step, (s .decks-long, (s .orders-long, (fair-now, (different-now, (s .disclosures-different, (omega (arith, more, c .push-reserved .ensures .len, s .moves-long), (s .decks-room, (s .orders-room, (s .draws-room, (s .disclosures-room, omega (arith, s .moves-room, c .push-reserved .ensures .capacity))))))))))))))))

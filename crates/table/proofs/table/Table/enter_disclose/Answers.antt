@@ -1,4 +1,3 @@
-use borrow.Author.Needs.{needs}
 use mathlib.Core.Path.{_≡_, sym, ap, _∙_}
 use Prim.Native.Nat.{ℕ, _+_, _*_, _≤_}
 use native.Mathlib.Nat.{suc-mul}
@@ -33,4 +32,4 @@ ghost-self g c =
     let fits : vec-len (h .orders) + length (c .args .order .now) ≤ vec-cap (h .orders) = omega (arith, same, room-for-order h s d (c .if-seat-self .left) free) in
     let long = c .extend-from-slice .ensures .len ∙ cond-true _ _ _ (c .extend-from-slice .ensures .succeeds fits) in
     let different-now = ap (different (λ e. e .seat) (h .seats)) (c .push-reserved .ensures .items) ∙ disclosed-different h s d (c .if-seat-self .left) free in
-    (search needs, (search needs, (search needs, (search needs, (search needs, (search needs, (omega (arith, long, c .push-reserved .ensures .len, suc-mul (vec-len (h .disclosures)) (h .cards), ap (λ n. n * h .cards) (c .push-reserved .ensures .len), s .orders-long), (search needs, (search needs, (different-now, (omega (arith, c .push-reserved .ensures .len, c .push-reserved-2 .ensures .len, s .moves-long), (search needs, (search needs, (search needs, (search needs, search needs)))))))))))))))
+    (s .seats-least, (s .seats-most, (s .cards-least, (s .cards-most, (s .step, (s .decks-long, (omega (arith, long, c .push-reserved .ensures .len, suc-mul (vec-len (h .disclosures)) (h .cards), ap (λ n. n * h .cards) (c .push-reserved .ensures .len), s .orders-long), (s .draws-fair, (s .places-different, (different-now, (omega (arith, c .push-reserved .ensures .len, c .push-reserved-2 .ensures .len, s .moves-long), (s .decks-room, (omega (arith, s .orders-room, c .extend-from-slice .ensures .capacity), (s .draws-room, (omega (arith, s .disclosures-room, c .push-reserved .ensures .capacity), omega (arith, s .moves-room, c .push-reserved-2 .ensures .capacity))))))))))))))))

@@ -1,4 +1,3 @@
-use borrow.Author.Needs.{needs}
 use mathlib.Core.Path.{_≡_, ap, _∙_}
 use mathlib.Core.Bool.{true}
 use Prim.Native.Nat.{_+_, _≤_}
@@ -25,4 +24,4 @@ ghost-self g c =
     let long = c .extend-from-slice .ensures .len ∙ cond-true _ _ _ (c .extend-from-slice .ensures .succeeds fits) in
     let step = ap (λ p. in-step p (h .locked + 1) (h .seats)) (c .phase-of-self .ensures) ∙ lock-step h s (c .pre) in
     let none = ap closes (c .phase-of-self .ensures) ∙ lock-closes (eqb (h .locked + 1) (h .seats)) in
-    (search needs, (search needs, (search needs, (search needs, (step, (omega (arith, long, suc-mul (h .locked) (h .cards), s .decks-long), (search needs, (search needs, (search needs, (search needs, (omega (arith, none, c .push-reserved .ensures .len, s .moves-long, ap closes (c .pre)), (search needs, (search needs, (search needs, (search needs, search needs)))))))))))))))
+    (s .seats-least, (s .seats-most, (s .cards-least, (s .cards-most, (step, (omega (arith, long, suc-mul (h .locked) (h .cards), s .decks-long), (s .orders-long, (s .draws-fair, (s .places-different, (s .disclosures-different, (omega (arith, none, c .push-reserved .ensures .len, s .moves-long, ap closes (c .pre)), (omega (arith, s .decks-room, c .extend-from-slice .ensures .capacity), (s .orders-room, (s .draws-room, (s .disclosures-room, omega (arith, s .moves-room, c .push-reserved .ensures .capacity))))))))))))))))
