@@ -1,4 +1,6 @@
 // The field of 2^31 elements: polynomials over two elements modulo x^31 + x^3 + 1, bit i of a number being the coefficient of x^i.
+#![tactic(auto)]
+
 ghost use Rattle.std.specs.Prelude.{◌≡◌};
 ghost use Rattle.binary.specs.Binary.{binary_field, binary_times, folded};
 ghost use Rattle.binary.specs.Carryless.{carryless, Remainder};

@@ -1,4 +1,6 @@
 // A commutative cipher over cards: what it means, what it promises, and how it refuses.
+#![tactic(auto)]
+
 pub mod fault;
 
 ghost use Rattle.std.specs.Prelude.{◌≡◌};

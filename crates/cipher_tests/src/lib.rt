@@ -1,4 +1,6 @@
 // Runs the fields and the ciphers: worked numbers, edges, round trips, and products computed slowly.
+#![tactic(auto)]
+
 #[cfg(test)]
 mod edges;
 #[cfg(test)]

@@ -1,4 +1,6 @@
 // Two seats deal one card over each field, and every step is printed.
+#![tactic(auto)]
+
 mod steps;
 
 use binary::BinaryField;

@@ -1,4 +1,6 @@
 // A finite field as far as the ciphers need it: numbers of four bytes with a product.
+#![tactic(auto)]
+
 ghost use Rattle.std.specs.Prelude.{◌≡◌};
 ghost use Rattle.field.specs.Field.{FieldMeaning, FieldLaws};
 

@@ -1,4 +1,6 @@
 // Orders of a deck's cards: the check that a list of places is an order, and rearranging by one.
+#![tactic(auto)]
+
 ghost use Rattle.std.specs.Prelude.{◌≡◌, length, replicate, MatchResult};
 ghost use Rattle.permutation.specs.Answer.{rearrange_answer};
 ghost use Rattle.permutation.specs.Permutation.{Within, permutes, rearranged};

@@ -1,4 +1,6 @@
 // The field of the numbers below the prime 2147483647.
+#![tactic(auto)]
+
 ghost use Rattle.prime.specs.Prime.{prime_field};
 ghost use Rattle.prime.specs.Laws.{prime_laws};
 

@@ -1,4 +1,6 @@
 // A refusal as it is told to whoever asked: its number, and what is returned with the number.
+#![tactic(auto)]
+
 ghost use Rattle.std.specs.Prelude.{◌≡◌};
 ghost use Rattle.refusal.specs.Refused.{refused, refused_with, refused_with_both};
 

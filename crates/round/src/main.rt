@@ -1,5 +1,7 @@
 // A whole hand is played through the calls of the table, once honestly and once with another card
 // shown, and each call is printed with its answer.
+#![tactic(auto)]
+
 mod hand;
 
 use hand::worked_hand;

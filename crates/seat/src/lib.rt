@@ -1,4 +1,6 @@
 // What a player does to a deck: seats that lock and shuffle, whatever they hold.
+#![tactic(auto)]
+
 pub mod any;
 pub mod fault;
 pub mod generator;

@@ -1,4 +1,6 @@
 // Runs orders and seats: what they accept, what they refuse, and worked numbers.
+#![tactic(auto)]
+
 #[cfg(test)]
 mod either;
 #[cfg(test)]

@@ -1,4 +1,6 @@
 // Lists of calls made on new tables, and the law over the runs of any two.
+#![tactic(auto)]
+
 ghost use Rattle.std.specs.Prelude.{◌≡◌};
 ghost use Rattle.table.specs.Model.{state_of};
 ghost use Rattle.session.specs.Steps.{asked_by, calls_of, step_answer, step_after, RunAnswer};

@@ -1,4 +1,6 @@
 // Runs lists of calls: whole hands, what the audit finds in them, and every refusal.
+#![tactic(auto)]
+
 #[cfg(test)]
 mod calls;
 #[cfg(test)]

@@ -1,4 +1,6 @@
 // Two seats lock and shuffle five cards over each field, and open them again.
+#![tactic(auto)]
+
 mod opening;
 mod steps;
 

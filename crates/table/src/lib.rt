@@ -1,4 +1,6 @@
 // The table: what is entered, by whom and when, and every refusal.
+#![tactic(auto)]
+
 pub mod call;
 mod calls;
 mod changes;

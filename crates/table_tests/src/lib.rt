@@ -1,4 +1,6 @@
 // Runs the table: a whole hand, and every refusal of its moves.
+#![tactic(auto)]
+
 #[cfg(test)]
 mod dealing;
 #[cfg(test)]

@@ -1,4 +1,6 @@
 // The audit: whether a hand was clean, or the first entry that is not honest.
+#![tactic(auto)]
+
 mod finding;
 mod honesty;
 mod progress;
