@@ -47,7 +47,7 @@ pub trait Cipher {
 // The card whose code the value is. A value that is still under a lock may be the code of
 // another card, so only a value with every lock taken off is read.
 pub fn read_card<C: Cipher>(cipher: &C, value: u32) -> Option<u8>
-    ensures { Reads (meaning cipher.now) value result }
+    ensures { Reads (C.meaning cipher.now) value result }
 {
     for card in 0..CARDS {
         if let Ok(code) = cipher.code(card) {
@@ -61,7 +61,7 @@ pub fn read_card<C: Cipher>(cipher: &C, value: u32) -> Option<u8>
 
 // Refuses a deck that holds a number which is no value, by the lowest place of such a one.
 pub fn check_deck<C: Cipher>(cipher: &C, deck: &[u32]) -> Result<(), CipherFault>
-    ensures { result ≡ deck_answer (meaning cipher.now) 0 deck.now }
+    ensures { result ≡ deck_answer (C.meaning cipher.now) 0 deck.now }
 {
     for (place, value) in deck.iter().enumerate() {
         if !cipher.is_value(*value) {

@@ -27,7 +27,7 @@ pub fn deal_card<C: Cipher>(
     card: u8,
     keys: (u32, u32),
 ) -> Result<DealtCard, CipherFault>
-    ensures { result ≡ deal_answer (meaning cipher.now) card keys.0 keys.1 }
+    ensures { result ≡ deal_answer (C.meaning cipher.now) card keys.0 keys.1 }
 {
     let code = cipher.code(card)?;
     let once = cipher.lock(keys.0, code)?;

@@ -39,7 +39,7 @@ pub fn rearrange<T: Copy + Blank>(
     target: &mut [T],
 ) -> Result<(), OrderFault>
     ensures answer { result ≡ rearrange_answer (length list.now) order.now (length target.old) }
-    ensures written { MatchResult result (λ _. (d : T) → target.new ≡ rearranged d list.now order.now) (λ _. target.new ≡ replicate (length target.old) blank) }
+    ensures written { MatchResult result (λ _. (d : T) → target.new ≡ rearranged d list.now order.now) (λ _. target.new ≡ replicate (length target.old) T.blank) }
 {
     let answer = check(list.len(), order, target.len());
     match answer {

@@ -7,8 +7,8 @@ use field::Field;
 
 // A number of the field to the power k, by squaring.
 pub(crate) fn raise<F: Field>(field: &F, x: u32, k: u32) -> u32
-    requires { x ≤ (meaning field.now).last }
-    ensures { result ≡ power (meaning field.now).times x k }
+    requires { x ≤ (F.meaning field.now).last }
+    ensures { result ≡ power (F.meaning field.now).times x k }
 {
     let mut result = 1;
     let mut square = x;

@@ -7,20 +7,20 @@ use Rattle.session.proofs.run.Goals as goal
 
 pub loop-step-init : goal.loop-step-init
 loop-step-init g c =
-    let started = c.in-ok-table.ensures in
-    let room = c.in-ok-replies.ensures in
+    let started = c.in_ok-table.ensures in
+    let room = c.in_ok-replies.ensures in
     (started.0, record { stands = started.1; answered = room.items }, room.len, omega (arith, room.capacity, c.len.ensures, c.deref-step-items.ensures.len))
 
-pub push-reserved-requires : goal.push-reserved-requires
-push-reserved-requires g c = omega (arith, c.loop-step.invariant.2, c.loop-step.invariant.3, c.loop-step-test.true)
+pub push_reserved-requires : goal.push_reserved-requires
+push_reserved-requires g c = omega (arith, c.loop-step.invariant.2, c.loop-step.invariant.3, c.loop-step-test.true)
 
 pub loop-step-preserved : goal.loop-step-preserved
 loop-step-preserved g c =
     let inv = c.loop-step.invariant in
-    let pushed = c.push-reserved.ensures in
+    let pushed = c.push_reserved.ensures in
     let script = c.args.script.now in
     let ran =
-    ran_next (g.C.Cipher.meaning c.args.cipher.now) script.seats script.cards inv.0 c.deref-step-items.result.now c.loop-step.step-index c.step-item.result (vec_items c.loop-step.replies) (vec_items c.push-reserved.new.self)
+    ran_next (g.C.Cipher.meaning c.args.cipher.now) script.seats script.cards inv.0 c.deref-step-items.result.now c.loop-step.step-index c.step-item.result (vec_items c.loop-step.replies) (vec_items c.push_reserved.new.self)
     (state_of c.loop-step.table) (state_of c.answer.new.table) c.answer.result c.loop-step-test.true c.step-item.is inv.1 c.answer.ensures.answer c.answer.ensures.made pushed.items in
     (inv.0, ran, omega (arith, pushed.len, inv.2), omega (arith, pushed.capacity, inv.3))
 

@@ -4,8 +4,8 @@ use Rattle.verdict.specs.Forward.{Bounded}
 use Rattle.verdict.proofs.Bounds.{bounded}
 use Rattle.verdict.proofs.audit.Goals as goal
 
-pub overflow-cast-disclosed : goal.overflow-cast-disclosed
-overflow-cast-disclosed g c = omega (arith, c.len-disclosed.ensures, ap (λ (r : Record). vec_len r.disclosures) c.record-held.ensures, (bounded c.args.table.now).disclosures_most)
+pub overflow_cast-disclosed : goal.overflow_cast-disclosed
+overflow_cast-disclosed g c = omega (arith, c.len-disclosed.ensures, ap (λ (r : Record). vec_len r.disclosures) c.record-held.ensures, (bounded c.args.table.now).disclosures_most)
 
-pub first-finding-requires : goal.first-finding-requires
-first-finding-requires g c = subst Bounded (sym c.record-held.ensures) (bounded c.args.table.now)
+pub first_finding-requires : goal.first_finding-requires
+first_finding-requires g c = subst Bounded (sym c.record-held.ensures) (bounded c.args.table.now)

@@ -6,11 +6,11 @@ use Rattle.power.proofs.arithmetic.invert.Goals as goal
 pub loop-low-init : goal.loop-low-init
 loop-low-init c = start _ _ c.requires.0
 
-pub overflow-mul-next : goal.overflow-mul-next
-overflow-mul-next c = record { fits = omega (arith, next_fits _ _ _ _ _ _ _ c.loop-low-test.true c.loop-low.invariant, c.ranges.n.fits) }
+pub overflow_mul-next : goal.overflow_mul-next
+overflow_mul-next c = record { fits = omega (arith, next_fits _ _ _ _ _ _ _ c.loop-low-test.true c.loop-low.invariant, c.ranges.n.fits) }
 
-pub overflow-add-next : goal.overflow-add-next
-overflow-add-next c = record { fits = omega (arith, next_fits _ _ _ _ _ _ _ c.loop-low-test.true c.loop-low.invariant, c.ranges.n.fits) }
+pub overflow_add-next : goal.overflow_add-next
+overflow_add-next c = record { fits = omega (arith, next_fits _ _ _ _ _ _ _ c.loop-low-test.true c.loop-low.invariant, c.ranges.n.fits) }
 
 pub loop-low-preserved : goal.loop-low-preserved
 loop-low-preserved c = step _ _ _ _ _ _ _ c.loop-low-test.true c.loop-low.invariant

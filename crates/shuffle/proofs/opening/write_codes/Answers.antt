@@ -10,7 +10,7 @@ pub loop-card-preserved : goal.loop-card-preserved
 loop-card-preserved g c =
     let m = g.C.Cipher.meaning c.args.cipher.now in
     let i = c.loop-card.card in
-    let is = c.unwrap-or.ensures ∙ ap (λ r. result_unwrap_or r 0) c.code.ensures ∙ code_written m (g.met.C.Cipher.lawful c.args.cipher.now) i (omega arith) in
+    let is = c.unwrap_or.ensures ∙ ap (λ r. result_unwrap_or r 0) c.code.ensures ∙ code_written m (g.met.C.Cipher.lawful c.args.cipher.now) i (omega arith) in
     subst (λ (v : ℕ). (k : ℕ) → k < i + 1 → get_or (set c.loop-card.deck i v) k 0 ≡ m.code k) (sym is)
     (fill_by_more m.code c.loop-card.deck i 0 (omega arith) c.loop-card.invariant)
 

@@ -8,6 +8,6 @@ abbrev pub invariant-loop-event : goal.invariant-loop-event
 invariant-loop-event g l =
     let m = g.C.Cipher.meaning l.cipher in
     let t = state_of_record l.held in
-    (found_from m t start t.moves ≡ found_from m t l.so-far (drop l.event-index l.event-items))
-    × (l.so-far.entries ≤ l.event-index)
-    × (l.so-far.locks ≤ l.event-index)
+    (found_from m t start t.moves ≡ found_from m t l.so_far (drop l.event-index l.event-items))
+    × (l.so_far.entries ≤ l.event-index)
+    × (l.so_far.locks ≤ l.event-index)

@@ -15,4 +15,4 @@ returns-then-locks-eq0 g c =
     code_at (g.C.Cipher.meaning c.args.cipher.now) (state_of_record c.args.held.now) c.args.locks c.args.place c.if-locks-eq0.true c.if-place-held.false
     c.requires.cards_most
     in
-    c.unwrap-or.ensures ∙ ap (λ (r : Result ℕ CipherFault). result_unwrap_or r 0) (c.code.ensures ∙ coded)
+    c.unwrap_or.ensures ∙ ap (λ (r : Result ℕ CipherFault). result_unwrap_or r 0) (c.code.ensures ∙ coded)

@@ -5,11 +5,11 @@ use Rattle.verdict.proofs.Bounds.{order_start}
 use Rattle.verdict.proofs.Parts.{part_at}
 use Rattle.verdict.proofs.reading.order_value.Goals as goal
 
-pub overflow-mul-start : goal.overflow-mul-start
-overflow-mul-start c = simp (c.disclosure_of.ensures, c.from.ensures) (omega (arith, order_start c.args.held.now c.requires.bounded c.args.seat))
+pub overflow_mul-start : goal.overflow_mul-start
+overflow_mul-start c = simp (c.disclosure_of.ensures, c.from.ensures) (omega (arith, order_start c.args.held.now c.requires.bounded c.args.seat))
 
-pub overflow-add-start : goal.overflow-add-start
-overflow-add-start c = simp (c.disclosure_of.ensures, c.from.ensures) (omega (arith, order_start c.args.held.now c.requires.bounded c.args.seat))
+pub overflow_add-start : goal.overflow_add-start
+overflow_add-start c = simp (c.disclosure_of.ensures, c.from.ensures) (omega (arith, order_start c.args.held.now c.requires.bounded c.args.seat))
 
 pub returns : goal.returns
 returns c =

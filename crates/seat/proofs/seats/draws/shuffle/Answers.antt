@@ -13,4 +13,4 @@ loop-i-preserved c =
 
 pub returns : goal.returns
 returns c = sym (shuffled_none c.loop-i.i c.loop-i.z c.loop-i.order c.loop-i-test.false) ∙ c.loop-i.invariant
-    ∙ ap₂ (λ (n : ℕ) (xs : List ℕ). shuffled (n - 1) c.args.z xs) c.number-places.auto.order c.number-places.ensures
+    ∙ ap₂ (λ (n : ℕ) (xs : List ℕ). shuffled (n - 1) c.args.z xs) c.number_places.auto.order c.number_places.ensures

@@ -2,18 +2,18 @@ use Rattle.std.proofs.Common.{◌<◌, length, vec_items, arith}
 use Rattle.table.proofs.Soundness.{sound_table, still_fair, still_different, one_more, room_for_one}
 use Rattle.table.proofs.table.Table.change_draw.Goals as goal
 
-pub push-reserved-requires : goal.push-reserved-requires
-push-reserved-requires c =
+pub push_reserved-requires : goal.push_reserved-requires
+push_reserved-requires c =
     let t = c.args.self.now in
     let below : c.args.number < length (vec_items t.held.draws) = omega (arith, c.requires.within, t.held.draws.ok.0) in
     room_for_one t.held (sound_table t) c.args.number c.args.changed below c.requires.place c.requires.fair c.requires.more
 
-pub invariant-of-self : goal.invariant-of-self
-invariant-of-self c =
+pub invariant_of-self : goal.invariant_of-self
+invariant_of-self c =
     let t = c.args.self.now in
     let s = sound_table t in
     let below : c.args.number < length (vec_items t.held.draws) = omega (arith, c.requires.within, t.held.draws.ok.0) in
     let fair_now = still_fair t.held s c.args.number c.args.changed below c.requires.place c.requires.fair c.requires.more in
     let different_now = still_different t.held s c.args.number c.args.changed below c.requires.place c.requires.fair c.requires.more in
     let more = one_more t.held s c.args.number c.args.changed below c.requires.place c.requires.fair c.requires.more in
-    (s.seats_least, (s.seats_most, (s.cards_least, (s.cards_most, (s.step, (s.decks_long, (s.orders_long, (fair_now, (different_now, (s.disclosures_different, (omega (arith, more, c.push-reserved.ensures.len, s.moves_long), (s.decks_room, (s.orders_room, (s.draws_room, (s.disclosures_room, omega (arith, s.moves_room, c.push-reserved.ensures.capacity))))))))))))))))
+    (s.seats_least, (s.seats_most, (s.cards_least, (s.cards_most, (s.step, (s.decks_long, (s.orders_long, (fair_now, (different_now, (s.disclosures_different, (omega (arith, more, c.push_reserved.ensures.len, s.moves_long), (s.decks_room, (s.orders_room, (s.draws_room, (s.disclosures_room, omega (arith, s.moves_room, c.push_reserved.ensures.capacity))))))))))))))))

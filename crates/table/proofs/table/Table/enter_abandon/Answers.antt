@@ -4,8 +4,8 @@ use Rattle.table.proofs.Soundness.{is_draw, draw_fair, draw_runs}
 use Rattle.table.proofs.Running.{abandoned_fair, abandoned_moves}
 use Rattle.table.proofs.table.Table.enter_abandon.Goals as goal
 
-pub change-draw-requires : goal.change-draw-requires
-change-draw-requires c =
+pub change_draw-requires : goal.change_draw-requires
+change_draw-requires c =
     let t = c.args.self.now in
     let d = c.index.result.now in
     let i = c.from-number.result in

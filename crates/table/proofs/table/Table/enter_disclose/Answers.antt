@@ -5,26 +5,26 @@ use Rattle.table.specs.declared.record.Disclosure.{Disclosure}
 use Rattle.table.proofs.Soundness.{sound_table, disclosed_different, room_for_disclosure, room_for_order, room_to_disclose}
 use Rattle.table.proofs.table.Table.enter_disclose.Goals as goal
 
-pub push-reserved-requires : goal.push-reserved-requires
-push-reserved-requires g c =
+pub push_reserved-requires : goal.push_reserved-requires
+push_reserved-requires g c =
     let t = c.args.self.now in
     let d : Disclosure = record { seat = c.args.seat; key = c.args.key } in
-    room_for_disclosure t.held (sound_table t) d c.if-seat-self.false (sym c.if-has-disclosed.ensures)
+    room_for_disclosure t.held (sound_table t) d c.if-seat-self.false (sym c.if-has_disclosed.ensures)
 
-pub push-reserved-requires-2 : goal.push-reserved-requires-2
-push-reserved-requires-2 g c =
+pub push_reserved-requires-2 : goal.push_reserved-requires-2
+push_reserved-requires-2 g c =
     let t = c.args.self.now in
     let d : Disclosure = record { seat = c.args.seat; key = c.args.key } in
-    room_to_disclose t.held (sound_table t) d c.if-seat-self.false (sym c.if-has-disclosed.ensures)
+    room_to_disclose t.held (sound_table t) d c.if-seat-self.false (sym c.if-has_disclosed.ensures)
 
-pub invariant-of-self : goal.invariant-of-self
-invariant-of-self g c =
+pub invariant_of-self : goal.invariant_of-self
+invariant_of-self g c =
     let h = c.args.self.now.held in
     let s = sound_table c.args.self.now in
     let d : Disclosure = record { seat = c.args.seat; key = c.args.key } in
-    let free = sym c.if-has-disclosed.ensures in
+    let free = sym c.if-has_disclosed.ensures in
     let same : length c.args.order.now ≡ h.cards = c.if-order-from.false ∙ c.from.ensures in
     let fits : vec_len h.orders + length c.args.order.now ≤ vec_capacity h.orders = omega (arith, same, room_for_order h s d c.if-seat-self.false free) in
-    let long = c.extend-from-slice.ensures.len ∙ cond-true _ _ _ (c.extend-from-slice.ensures.succeeds fits) in
-    let different_now = ap (different (λ e. e.seat) h.seats) c.push-reserved.ensures.items ∙ disclosed_different h s d c.if-seat-self.false free in
-    (s.seats_least, (s.seats_most, (s.cards_least, (s.cards_most, (s.step, (s.decks_long, (omega (arith, long, c.push-reserved.ensures.len, suc-mul (vec_len h.disclosures) h.cards, ap (λ n. n * h.cards) c.push-reserved.ensures.len, s.orders_long), (s.draws_fair, (s.places_different, (different_now, (omega (arith, c.push-reserved.ensures.len, c.push-reserved-2.ensures.len, s.moves_long), (s.decks_room, (omega (arith, s.orders_room, c.extend-from-slice.ensures.capacity), (s.draws_room, (omega (arith, s.disclosures_room, c.push-reserved.ensures.capacity), omega (arith, s.moves_room, c.push-reserved-2.ensures.capacity))))))))))))))))
+    let long = c.extend_from_slice.ensures.len ∙ cond-true _ _ _ (c.extend_from_slice.ensures.succeeds fits) in
+    let different_now = ap (different (λ e. e.seat) h.seats) c.push_reserved.ensures.items ∙ disclosed_different h s d c.if-seat-self.false free in
+    (s.seats_least, (s.seats_most, (s.cards_least, (s.cards_most, (s.step, (s.decks_long, (omega (arith, long, c.push_reserved.ensures.len, suc-mul (vec_len h.disclosures) h.cards, ap (λ n. n * h.cards) c.push_reserved.ensures.len, s.orders_long), (s.draws_fair, (s.places_different, (different_now, (omega (arith, c.push_reserved.ensures.len, c.push_reserved-2.ensures.len, s.moves_long), (s.decks_room, (omega (arith, s.orders_room, c.extend_from_slice.ensures.capacity), (s.draws_room, (omega (arith, s.disclosures_room, c.push_reserved.ensures.capacity), omega (arith, s.moves_room, c.push_reserved-2.ensures.capacity))))))))))))))))

@@ -5,16 +5,16 @@ use Rattle.table.specs.Sound.{in_step}
 use Rattle.table.proofs.Soundness.{sound_table, lock_step, room_to_lock, room_for_deck, lock_closes}
 use Rattle.table.proofs.table.Table.enter_lock.Goals as goal
 
-pub push-reserved-requires : goal.push-reserved-requires
-push-reserved-requires g c = room_to_lock c.args.self.now.held (sound_table c.args.self.now) c.requires
+pub push_reserved-requires : goal.push_reserved-requires
+push_reserved-requires g c = room_to_lock c.args.self.now.held (sound_table c.args.self.now) c.requires
 
-pub invariant-of-self : goal.invariant-of-self
-invariant-of-self g c =
+pub invariant_of-self : goal.invariant_of-self
+invariant_of-self g c =
     let h = c.args.self.now.held in
     let s = sound_table c.args.self.now in
     let same : length c.args.deck.now ≡ h.cards = c.if-deck-from.false ∙ c.from.ensures in
     let fits : vec_len h.decks + length c.args.deck.now ≤ vec_capacity h.decks = omega (arith, same, room_for_deck h s c.requires) in
-    let long = c.extend-from-slice.ensures.len ∙ cond-true _ _ _ (c.extend-from-slice.ensures.succeeds fits) in
-    let step = ap (λ p. in_step p (h.locked + 1) h.seats) c.phase-of-self.ensures ∙ lock_step h s c.requires in
-    let none = ap closes c.phase-of-self.ensures ∙ lock_closes (eqb (h.locked + 1) h.seats) in
-    (s.seats_least, (s.seats_most, (s.cards_least, (s.cards_most, (step, (omega (arith, long, suc-mul h.locked h.cards, s.decks_long), (s.orders_long, (s.draws_fair, (s.places_different, (s.disclosures_different, (omega (arith, none, c.push-reserved.ensures.len, s.moves_long, ap closes c.requires), (omega (arith, s.decks_room, c.extend-from-slice.ensures.capacity), (s.orders_room, (s.draws_room, (s.disclosures_room, omega (arith, s.moves_room, c.push-reserved.ensures.capacity))))))))))))))))
+    let long = c.extend_from_slice.ensures.len ∙ cond-true _ _ _ (c.extend_from_slice.ensures.succeeds fits) in
+    let step = ap (λ p. in_step p (h.locked + 1) h.seats) c.phase_of-self.ensures ∙ lock_step h s c.requires in
+    let none = ap closes c.phase_of-self.ensures ∙ lock_closes (eqb (h.locked + 1) h.seats) in
+    (s.seats_least, (s.seats_most, (s.cards_least, (s.cards_most, (step, (omega (arith, long, suc-mul h.locked h.cards, s.decks_long), (s.orders_long, (s.draws_fair, (s.places_different, (s.disclosures_different, (omega (arith, none, c.push_reserved.ensures.len, s.moves_long, ap closes c.requires), (omega (arith, s.decks_room, c.extend_from_slice.ensures.capacity), (s.orders_room, (s.draws_room, (s.disclosures_room, omega (arith, s.moves_room, c.push_reserved.ensures.capacity))))))))))))))))

@@ -4,8 +4,8 @@ use Rattle.table.proofs.Soundness.{sound_table, is_draw, draw_fair, draw_runs}
 use Rattle.table.proofs.Running.{shares_below, shared_fair, shared_moves}
 use Rattle.table.proofs.table.Table.enter_share.Goals as goal
 
-pub add-share-requires : goal.add-share-requires
-add-share-requires g c =
+pub add_share-requires : goal.add_share-requires
+add_share-requires g c =
     let t = c.args.self.now in
     let d = c.index.result.now in
     let i = c.from-number.result in
@@ -15,8 +15,8 @@ add-share-requires g c =
     let runs = draw_runs t i d below c.index.ensures c.in-Some.running found c.from-number.ensures in
     (omega (arith, c.if-seat-self.false, (sound_table t).seats_most), omega (arith, shares_below t.held.seats d fair runs, (sound_table t).seats_most))
 
-pub change-draw-requires : goal.change-draw-requires
-change-draw-requires g c =
+pub change_draw-requires : goal.change_draw-requires
+change_draw-requires g c =
     let t = c.args.self.now in
     let d = c.index.result.now in
     let i = c.from-number.result in
@@ -27,7 +27,7 @@ change-draw-requires g c =
     let runs = draw_runs t i d below c.index.ensures c.in-Some.running found c.from-number.ensures in
     record {
       within = below;
-      place = ap (λ e. e.place) c.add-share.ensures ∙ ap (λ e. e.place) is;
-      fair = subst (λ e. fair_end e.end t.held.seats e.shares e.shown ≡ true) (sym c.add-share.ensures) (shared_fair t.held.seats d fair runs c.args.seat c.args.value);
-      more = ap moves_of c.add-share.ensures ∙ shared_moves t.held.seats d fair runs c.args.seat c.args.value ∙ ap (λ e. moves_of e + 1) is;
+      place = ap (λ e. e.place) c.add_share.ensures ∙ ap (λ e. e.place) is;
+      fair = subst (λ e. fair_end e.end t.held.seats e.shares e.shown ≡ true) (sym c.add_share.ensures) (shared_fair t.held.seats d fair runs c.args.seat c.args.value);
+      more = ap moves_of c.add_share.ensures ∙ shared_moves t.held.seats d fair runs c.args.seat c.args.value ∙ ap (λ e. moves_of e + 1) is;
     }

@@ -14,8 +14,8 @@ returns-then-number-len c =
     let unknown = unknown_draw (state_of t) c.args.draw (omega (arith, c.if-number-len.true, c.from-number.ensures, c.len.ensures, t.held.draws.ok.0)) in
     record { answer = sym (cond-false _ _ _ unknown); made = refl }
 
-pub change-draw-requires : goal.change-draw-requires
-change-draw-requires c =
+pub change_draw-requires : goal.change_draw-requires
+change_draw-requires c =
     let t = c.args.self.now in
     let d = c.index.result.now in
     let i = c.from-number.result in

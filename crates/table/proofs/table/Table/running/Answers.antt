@@ -7,5 +7,5 @@ use Rattle.table.proofs.table.Table.running.Goals as goal
 pub returns-then-count-eq0 : goal.returns-then-count-eq0
 returns-then-count-eq0 c = none_running (state_of c.args.self.now) (search rules)
 
-pub overflow-cast-result : goal.overflow-cast-result
-overflow-cast-result c = omega (arith, c.len-count.ensures, draws_count c.args.self.now.held (sound_table c.args.self.now))
+pub overflow_cast-result : goal.overflow_cast-result
+overflow_cast-result c = omega (arith, c.len-count.ensures, draws_count c.args.self.now.held (sound_table c.args.self.now))
