@@ -7,7 +7,7 @@ use Rattle.seat.proofs.locks.lock_deck.Goals as goal
 pub lock_each-requires : goal.lock_each-requires
 lock_each-requires g c =
     let m = g.C.Cipher.meaning c.args.cipher.now in
-    let a = accepted m c.args.key (length c.args.order.now) c.args.deck.now (length c.args.target.now) (sym c.check-lock_answer.ensures ∙ c.in-Ok.is) in
+    let a = accepted m c.args.key (length c.args.order.now) c.args.deck.now (length c.args.target.now) (sym c.check_lock-answer.ensures ∙ c.in-Ok.is) in
     let moved = rearranges m c.args.key c.args.deck.now c.args.order.now c.rearrange.new.target (length c.args.target.now) c.rearrange.result
     c.requires.few c.requires.ordered a c.rearrange.ensures.answer c.rearrange.ensures.written in
     record {
@@ -18,11 +18,11 @@ lock_each-requires g c =
 pub returns-in-Ok : goal.returns-in-Ok
 returns-in-Ok g c =
     let m = g.C.Cipher.meaning c.args.cipher.now in
-    let a = accepted m c.args.key (length c.args.order.now) c.args.deck.now (length c.args.target.now) (sym c.check-lock_answer.ensures ∙ c.in-Ok.is) in
+    let a = accepted m c.args.key (length c.args.order.now) c.args.deck.now (length c.args.target.now) (sym c.check_lock-answer.ensures ∙ c.in-Ok.is) in
     let moved = rearranges m c.args.key c.args.deck.now c.args.order.now c.rearrange.new.target (length c.args.target.now) c.rearrange.result
     c.requires.few c.requires.ordered a c.rearrange.ensures.answer c.rearrange.ensures.written in
     record {
-      answer = c.check-lock_answer.ensures;
-      written = filled_ok c.check-lock_answer.result c.lock_each.new.deck _ 0 _ c.in-Ok.is
+      answer = c.check_lock-answer.ensures;
+      written = filled_ok c.check_lock-answer.result c.lock_each.new.deck _ 0 _ c.in-Ok.is
           (c.lock_each.ensures ∙ ap (map (m.lock c.args.key)) moved ∙ locked_rearranged m c.args.key c.args.deck.now c.args.order.now);
     }

@@ -7,8 +7,8 @@ use Rattle.seat.proofs.seats.draws.shuffle.Goals as goal
 pub loop-i-preserved : goal.loop-i-preserved
 loop-i-preserved c =
     let i = c.loop-i.i in
-    ap (shuffled (i - 1 - 1) c.drawn-after-z.result) c.swap.ensures.after
-    ∙ ap (λ (z : ℕ). shuffled (i - 1 - 1) z (swap c.loop-i.order (i - 1) (z % (i - 1 + 1)))) c.drawn-after-z.ensures
+    ap (shuffled (i - 1 - 1) c.drawn_after-z.result) c.swap.ensures.after
+    ∙ ap (λ (z : ℕ). shuffled (i - 1 - 1) z (swap c.loop-i.order (i - 1) (z % (i - 1 + 1)))) c.drawn_after-z.ensures
     ∙ sym (shuffled_turn i c.loop-i.z c.loop-i.order c.loop-i-test.true) ∙ c.loop-i.invariant
 
 pub returns : goal.returns

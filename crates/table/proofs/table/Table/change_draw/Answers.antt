@@ -16,4 +16,21 @@ invariant_of-self c =
     let fair_now = still_fair t.held s c.args.number c.args.changed below c.requires.place c.requires.fair c.requires.more in
     let different_now = still_different t.held s c.args.number c.args.changed below c.requires.place c.requires.fair c.requires.more in
     let more = one_more t.held s c.args.number c.args.changed below c.requires.place c.requires.fair c.requires.more in
-    (s.seats_least, (s.seats_most, (s.cards_least, (s.cards_most, (s.step, (s.decks_long, (s.orders_long, (fair_now, (different_now, (s.disclosures_different, (omega (arith, more, c.push_reserved.ensures.len, s.moves_long), (s.decks_room, (s.orders_room, (s.draws_room, (s.disclosures_room, omega (arith, s.moves_room, c.push_reserved.ensures.capacity))))))))))))))))
+    record {
+      seats_least = s.seats_least;
+      seats_most = s.seats_most;
+      cards_least = s.cards_least;
+      cards_most = s.cards_most;
+      step = s.step;
+      decks_long = s.decks_long;
+      orders_long = s.orders_long;
+      draws_fair = fair_now;
+      places_different = different_now;
+      disclosures_different = s.disclosures_different;
+      moves_long = omega (arith, more, c.push_reserved.ensures.len, s.moves_long);
+      decks_room = s.decks_room;
+      orders_room = s.orders_room;
+      draws_room = s.draws_room;
+      disclosures_room = s.disclosures_room;
+      moves_room = omega (arith, s.moves_room, c.push_reserved.ensures.capacity);
+    }

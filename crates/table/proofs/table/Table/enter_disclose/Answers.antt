@@ -27,4 +27,21 @@ invariant_of-self g c =
     let fits : vec_len h.orders + length c.args.order.now ≤ vec_capacity h.orders = omega (arith, same, room_for_order h s d c.if-seat-self.false free) in
     let long = c.extend_from_slice.ensures.len ∙ cond-true _ _ _ (c.extend_from_slice.ensures.succeeds fits) in
     let different_now = ap (different (λ e. e.seat) h.seats) c.push_reserved.ensures.items ∙ disclosed_different h s d c.if-seat-self.false free in
-    (s.seats_least, (s.seats_most, (s.cards_least, (s.cards_most, (s.step, (s.decks_long, (omega (arith, long, c.push_reserved.ensures.len, suc-mul (vec_len h.disclosures) h.cards, ap (λ n. n * h.cards) c.push_reserved.ensures.len, s.orders_long), (s.draws_fair, (s.places_different, (different_now, (omega (arith, c.push_reserved.ensures.len, c.push_reserved-2.ensures.len, s.moves_long), (s.decks_room, (omega (arith, s.orders_room, c.extend_from_slice.ensures.capacity), (s.draws_room, (omega (arith, s.disclosures_room, c.push_reserved.ensures.capacity), omega (arith, s.moves_room, c.push_reserved-2.ensures.capacity))))))))))))))))
+    record {
+      seats_least = s.seats_least;
+      seats_most = s.seats_most;
+      cards_least = s.cards_least;
+      cards_most = s.cards_most;
+      step = s.step;
+      decks_long = s.decks_long;
+      orders_long = omega (arith, long, c.push_reserved.ensures.len, suc-mul (vec_len h.disclosures) h.cards, ap (λ n. n * h.cards) c.push_reserved.ensures.len, s.orders_long);
+      draws_fair = s.draws_fair;
+      places_different = s.places_different;
+      disclosures_different = different_now;
+      moves_long = omega (arith, c.push_reserved.ensures.len, c.push_reserved-2.ensures.len, s.moves_long);
+      decks_room = s.decks_room;
+      orders_room = omega (arith, s.orders_room, c.extend_from_slice.ensures.capacity);
+      draws_room = s.draws_room;
+      disclosures_room = omega (arith, s.disclosures_room, c.push_reserved.ensures.capacity);
+      moves_room = omega (arith, s.moves_room, c.push_reserved-2.ensures.capacity);
+    }

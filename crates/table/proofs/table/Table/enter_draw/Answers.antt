@@ -23,4 +23,21 @@ invariant_of-self c =
     let fair_now = ap (fair t.held.seats) c.push_reserved.ensures.items ∙ added_fair t.held s d c.if-place-self.false free (begun_fair t.held s) refl in
     let different_now = ap (different (λ e. e.place) t.held.cards) c.push_reserved.ensures.items ∙ added_different t.held s d c.if-place-self.false free (begun_fair t.held s) refl in
     let more = ap draw_moves c.push_reserved.ensures.items ∙ added_moves t.held s d c.if-place-self.false free (begun_fair t.held s) refl in
-    (s.seats_least, (s.seats_most, (s.cards_least, (s.cards_most, (s.step, (s.decks_long, (s.orders_long, (fair_now, (different_now, (s.disclosures_different, (omega (arith, more, c.push_reserved-2.ensures.len, s.moves_long), (s.decks_room, (s.orders_room, (omega (arith, s.draws_room, c.push_reserved.ensures.capacity), (s.disclosures_room, omega (arith, s.moves_room, c.push_reserved-2.ensures.capacity))))))))))))))))
+    record {
+      seats_least = s.seats_least;
+      seats_most = s.seats_most;
+      cards_least = s.cards_least;
+      cards_most = s.cards_most;
+      step = s.step;
+      decks_long = s.decks_long;
+      orders_long = s.orders_long;
+      draws_fair = fair_now;
+      places_different = different_now;
+      disclosures_different = s.disclosures_different;
+      moves_long = omega (arith, more, c.push_reserved-2.ensures.len, s.moves_long);
+      decks_room = s.decks_room;
+      orders_room = s.orders_room;
+      draws_room = omega (arith, s.draws_room, c.push_reserved.ensures.capacity);
+      disclosures_room = s.disclosures_room;
+      moves_room = omega (arith, s.moves_room, c.push_reserved-2.ensures.capacity);
+    }

@@ -17,4 +17,21 @@ invariant_of-self g c =
     let long = c.extend_from_slice.ensures.len ∙ cond-true _ _ _ (c.extend_from_slice.ensures.succeeds fits) in
     let step = ap (λ p. in_step p (h.locked + 1) h.seats) c.phase_of-self.ensures ∙ lock_step h s c.requires in
     let none = ap closes c.phase_of-self.ensures ∙ lock_closes (eqb (h.locked + 1) h.seats) in
-    (s.seats_least, (s.seats_most, (s.cards_least, (s.cards_most, (step, (omega (arith, long, suc-mul h.locked h.cards, s.decks_long), (s.orders_long, (s.draws_fair, (s.places_different, (s.disclosures_different, (omega (arith, none, c.push_reserved.ensures.len, s.moves_long, ap closes c.requires), (omega (arith, s.decks_room, c.extend_from_slice.ensures.capacity), (s.orders_room, (s.draws_room, (s.disclosures_room, omega (arith, s.moves_room, c.push_reserved.ensures.capacity))))))))))))))))
+    record {
+      seats_least = s.seats_least;
+      seats_most = s.seats_most;
+      cards_least = s.cards_least;
+      cards_most = s.cards_most;
+      step = step;
+      decks_long = omega (arith, long, suc-mul h.locked h.cards, s.decks_long);
+      orders_long = s.orders_long;
+      draws_fair = s.draws_fair;
+      places_different = s.places_different;
+      disclosures_different = s.disclosures_different;
+      moves_long = omega (arith, none, c.push_reserved.ensures.len, s.moves_long, ap closes c.requires);
+      decks_room = omega (arith, s.decks_room, c.extend_from_slice.ensures.capacity);
+      orders_room = s.orders_room;
+      draws_room = s.draws_room;
+      disclosures_room = s.disclosures_room;
+      moves_room = omega (arith, s.moves_room, c.push_reserved.ensures.capacity);
+    }
