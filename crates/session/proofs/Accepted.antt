@@ -31,7 +31,7 @@ limits_of S D h =
     record { seats_least = leb-true 2 S a.0; seats_most = leb-true S 8 b.0; cards_least = leb-true 2 D c.0; cards_most = leb-true D 52 c.1 }
 
 -- a check that did not refuse
-pub check_passed : {A : Type 0} (b : Bool) (fault : TableFault) (then : Result A TableFault) (a : A) → check b fault then ≡ Ok a → (b ≡ true) × (then ≡ Ok a)
+pub check_passed : (b : Bool) (fault : TableFault) (then : Answer) (a : ℕ) → check b fault then ≡ Ok a → (b ≡ true) × (then ≡ Ok a)
 check_passed true fault then a h = (refl, h)
 check_passed false fault then a h = (cc, cc)
 

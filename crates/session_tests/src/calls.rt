@@ -72,8 +72,10 @@ fn due(told: Told) -> Result<Reply, Refusal> {
     }
 }
 
+// What a call answers; a failure tells the call's number.
 pub fn check_reply(
     rt: &impl Abort,
+    number: usize,
     reply: Result<Reply, TableFault>,
     told: Told,
 ) -> Result<(), Fail> {
@@ -81,7 +83,7 @@ pub fn check_reply(
         Ok(answer) => Ok(answer),
         Err(fault) => Err(fault.refusal()),
     };
-    assert_eq!(rt; answer, due(told));
+    assert_eq!(rt; answer, due(told), "call {number}");
     Ok(())
 }
 
@@ -111,7 +113,7 @@ fn check_replies(
     let mut number = 0usize;
     for (_, told) in list {
         let reply = replies.get(number).copied().ok_or("no reply")?;
-        check_reply(rt, reply, *told).note(number)?;
+        check_reply(rt, number, reply, *told)?;
         number = number.wrapping_add(1);
     }
     assert_eq!(rt; number, replies.len());

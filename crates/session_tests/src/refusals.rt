@@ -221,7 +221,8 @@ fn check_count(rt: &impl Abort, heap: Global, seats: u8, count: u8) -> Result<()
     } else {
         Clean
     };
-    check_reply(rt, replies.last().copied().ok_or("no reply")?, told)
+    let last = replies.len().saturating_sub(1);
+    check_reply(rt, last, replies.last().copied().ok_or("no reply")?, told)
 }
 
 #[test]
