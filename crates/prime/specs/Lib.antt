@@ -1,8 +1,9 @@
--- What the contracts of the prime field cite.
+-- What the contracts cite.
 pub mod Prime
+-- Why the laws hold.
 pub mod Laws
 pub mod Primality
-pub mod Fermat
 pub mod Euclid
 pub mod Binomial
+pub mod Fermat
 pub mod Powers

@@ -5,9 +5,7 @@ ghost use Rattle.std.specs.Prelude.{◌≡◌};
 ghost use Rattle.seat.specs.Answers.{keyed_answer, told};
 ghost use Rattle.seat.specs.Generator.{generator_answer};
 ghost use Rattle.seat.specs.Kinds.{keyed_meaning, generator_meaning, any_meaning};
-ghost use Rattle.std.proofs.Common.{rules, arith};
-ghost use Rattle.seat.specs.Generating.{generator_laws};
-ghost use Rattle.seat.specs.declared.any.AnySeat.TheVariants.{Keyed, Generator};
+ghost use Rattle.seat.specs.Laws.{keyed_laws, drawn_laws, any_laws};
 
 use crate::Seat;
 use crate::any::AnySeat;
@@ -39,7 +37,7 @@ impl KeyedSeat {
 impl Seat for KeyedSeat {
     ghost meaning = { keyed_meaning };
 
-    ghost seated = { first_of (Prim.search rules, Prim.grind (arith, Self.row.coded.inj)) };
+    ghost seated = { keyed_laws };
 
     fn size(&self) -> u8 {
         self.order.len() as u8
@@ -74,7 +72,7 @@ impl GeneratorSeat {
 impl Seat for GeneratorSeat {
     ghost meaning = { generator_meaning };
 
-    ghost seated = { λ s. generator_laws s.start s.size s.fits };
+    ghost seated = { drawn_laws };
 
     fn size(&self) -> u8 {
         self.size
@@ -98,10 +96,7 @@ impl Seat for GeneratorSeat {
 impl Seat for AnySeat {
     ghost meaning = { any_meaning };
 
-    ghost seated = { elim [
-      | Keyed s ↦ record { few = s.few; sized = Prim.search rules; ordered = s.ordered }
-      | Generator s ↦ generator_laws s.start s.size s.fits
-    ] };
+    ghost seated = { any_laws };
 
     fn size(&self) -> u8 {
         match self {

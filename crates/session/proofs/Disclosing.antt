@@ -8,7 +8,7 @@ use Rattle.cipher.specs.Cipher.{CipherMeaning}
 use Rattle.table.specs.State.{lock, draw, share, abandon, close, show, disclose}
 use Rattle.table.specs.Rules.{some, has_disclosed}
 use Rattle.table.specs.declared.record.Disclosure.{Disclosure}
-use Rattle.verdict.specs.Log.{Log, disclosures, discloses_seat, secret, Secret}
+use Rattle.verdict.specs.Log.{Log, discloses_seat, secret, Secret}
 use Rattle.verdict.specs.Tables.{part, no_disclosure}
 use Rattle.session.proofs.Accepted.{Accepted}
 use Rattle.session.proofs.Lists.{part_last, part_stays, part_past, some_added}

@@ -1,5 +1,5 @@
 -- What is found, or not, among draws and disclosures.
-use Rattle.std.proofs.Common.{◌≡◌, ℕ, ◌+◌, ◌-◌, ◌<◌, ◌≤◌, Bool, true, false, ◌||◌, List, [], ◌∷◌, length, get_or, drop, sym, refl, ap, ◌∙◌, arith}
+use Rattle.std.proofs.Common.{◌≡◌, ℕ, ◌+◌, ◌<◌, ◌≤◌, Bool, true, false, ◌||◌, List, length, get_or, drop, sym, ap, ◌∙◌, arith}
 use Rattle.std.proofs.lemmas.List.{get_or_past, drop_more, at_drop_all}
 use Rattle.std.proofs.lemmas.Bool.{or_left}
 use Rattle.table.specs.State.{State, running, no_draw, draw_at, is_running, is_dealt, last_draw}

@@ -1,5 +1,5 @@
 -- What holds of every table's record, and the room that it has for a whole hand.
-use Rattle.std.specs.Prelude.{ℕ, ◌+◌, ◌*◌, Bool, true, false, cond, not, ◌&&◌, List, [], ◌∷◌, ◌==◌, nat_eq, nat_lt}
+use Rattle.std.specs.Prelude.{ℕ, ◌+◌, ◌*◌, Bool, true, cond, not, ◌&&◌, List, [], ◌∷◌, ◌==◌, nat_eq, nat_lt}
 use Rattle.table.specs.State.{is_running, is_dealt}
 use Rattle.table.specs.Rules.{some}
 use Rattle.table.specs.declared.record.DrawRecord.{DrawRecord}

@@ -20,50 +20,50 @@ module _ (v : View) where
   abbrev pub runs : Bool
   runs = is_running (v.end last)
 
-  abbrev pub entry : Answer
-  entry = Ok v.entries
+  abbrev pub view_entry : Answer
+  view_entry = Ok v.entries
 
-  abbrev pub lock_rules : CipherMeaning → ℕ → List ℕ → Answer
-  lock_rules m s deck =
+  abbrev pub view_lock_rules : CipherMeaning → ℕ → List ℕ → Answer
+  view_lock_rules m s deck =
       check (nat_lt s v.seats) (NoSeat s)
       (check (s == v.locked) (OtherTurn v.locked)
       (check (length deck == v.cards) (WrongLength (length deck))
-      (seated s (deck_answer m 0 deck) entry)))
+      (seated s (deck_answer m 0 deck) view_entry)))
 
-  abbrev pub draw_rules : ℕ → ℕ → Answer
-  draw_rules s p =
+  abbrev pub view_draw_rules : ℕ → ℕ → Answer
+  view_draw_rules s p =
       check (not runs) (DrawRunning last)
       (check (nat_lt s v.seats) (NoSeat s)
       (check (nat_lt p v.cards) (NoPlace p)
-      (check (not (v.taken p)) (PlaceTaken p) entry)))
+      (check (not (v.taken p)) (PlaceTaken p) view_entry)))
 
-  abbrev pub share_rules : CipherMeaning → ℕ → ℕ → Answer
-  share_rules m s value =
+  abbrev pub view_share_rules : CipherMeaning → ℕ → ℕ → Answer
+  view_share_rules m s value =
       check runs NoDrawRunning
       (check (nat_lt s v.seats) (NoSeat s)
       (check (not (s == v.drawer last)) (OwnShare s)
       (check (not (v.has_shared last s)) (SecondShare s)
-      (check (m.value value) (Cipher s (NotValue 0 value)) entry))))
+      (check (m.value value) (Cipher s (NotValue 0 value)) view_entry))))
 
-  abbrev pub abandon_rules : Answer
-  abandon_rules = check runs NoDrawRunning entry
+  abbrev pub view_abandon_rules : Answer
+  view_abandon_rules = check runs NoDrawRunning view_entry
 
-  abbrev pub close_rules : Answer
-  close_rules = check (not runs) (DrawRunning last) (Ok (phase_number (phase_after v.phase)))
+  abbrev pub view_close_rules : Answer
+  view_close_rules = check (not runs) (DrawRunning last) (Ok (phase_number (phase_after v.phase)))
 
-  abbrev pub show_rules : ℕ → ℕ → Answer
-  show_rules d c =
+  abbrev pub view_show_rules : ℕ → ℕ → Answer
+  view_show_rules d c =
       check (is_dealt (v.end d)) (NotDealt d)
       (check (not (v.shown d)) (AlreadyShown d)
-      (check (nat_lt c v.cards) (NoCard c) entry))
+      (check (nat_lt c v.cards) (NoCard c) view_entry))
 
-  abbrev pub disclose_rules : CipherMeaning → ℕ → ℕ → List ℕ → Answer
-  disclose_rules m s k o =
+  abbrev pub view_disclose_rules : CipherMeaning → ℕ → ℕ → List ℕ → Answer
+  view_disclose_rules m s k o =
       check (nat_lt s v.seats) (NoSeat s)
       (check (not (v.has_disclosed s)) (AlreadyDisclosed s)
       (check (m.lawful k) (Cipher s (UnlawfulKey k))
       (check (length o == v.cards) (WrongLength (length o))
-      (check (permutes o) NotOrder entry))))
+      (check (permutes o) NotOrder view_entry))))
 
   -- an audit, a question in phase 3 when every seat has disclosed, has the answer given
   abbrev pub audit_rules : {A : Type 0} → A → Result A TableFault
@@ -72,15 +72,15 @@ module _ (v : View) where
       (cond (nat_le v.seats v.disclosures) (Ok verdict) (Err (FewDisclosures v.disclosures)))
       (Err (WrongPhase v.phase))
 
-abbrev pub rules : CipherMeaning → View → Move → Answer
-rules m v (lock s deck) = lock_rules v m s deck
-rules m v (draw s p) = draw_rules v s p
-rules m v (share s value) = share_rules v m s value
-rules m v abandon = abandon_rules v
-rules m v close = close_rules v
-rules m v (show d c) = show_rules v d c
-rules m v (disclose s k o) = disclose_rules v m s k o
+abbrev pub view_rules : CipherMeaning → View → Move → Answer
+view_rules m v (lock s deck) = view_lock_rules v m s deck
+view_rules m v (draw s p) = view_draw_rules v s p
+view_rules m v (share s value) = view_share_rules v m s value
+view_rules m v abandon = view_abandon_rules v
+view_rules m v close = view_close_rules v
+view_rules m v (show d c) = view_show_rules v d c
+view_rules m v (disclose s k o) = view_disclose_rules v m s k o
 
 -- a move outside its phases is refused before anything else is looked at
 abbrev pub judged : CipherMeaning → View → Move → Answer
-judged m v move = check (belongs move v.phase) (WrongPhase v.phase) (rules m v move)
+judged m v move = check (belongs move v.phase) (WrongPhase v.phase) (view_rules m v move)

@@ -1,4 +1,4 @@
-use Rattle.std.proofs.Common.{◌≡◌, ℕ, ◌+◌, ◌*◌, ◌≤◌, length, vec_len, vec_capacity, sym, ap, ◌∙◌, suc-mul, arith}
+use Rattle.std.proofs.Common.{◌≡◌, ◌+◌, ◌*◌, ◌≤◌, length, vec_len, vec_capacity, sym, ap, ◌∙◌, suc-mul, arith}
 use Rattle.std.proofs.lemmas.Bool.{cond-true}
 use Rattle.table.specs.Sound.{different}
 use Rattle.table.specs.declared.record.Disclosure.{Disclosure}

@@ -1,4 +1,4 @@
-use Rattle.std.proofs.Common.{◌≡◌, sym, refl, ap, ◌∙◌, arith}
+use Rattle.std.proofs.Common.{sym, refl, ap, ◌∙◌, arith}
 use Rattle.table.specs.State.{begun}
 use Rattle.table.specs.Sound.{fair, different, draw_moves}
 use Rattle.table.proofs.Soundness.{sound_table, added_fair, added_different, added_moves, room_for_draw, room_for_its_move, begun_fair}

@@ -1,4 +1,4 @@
-use Rattle.std.proofs.Common.{◌≡◌, ◌+◌, ◌≤◌, true, eqb, length, vec_len, vec_capacity, ap, ◌∙◌, suc-mul, arith}
+use Rattle.std.proofs.Common.{◌≡◌, ◌+◌, ◌≤◌, eqb, length, vec_len, vec_capacity, ap, ◌∙◌, suc-mul, arith}
 use Rattle.std.proofs.lemmas.Bool.{cond-true}
 use Rattle.table.specs.Rules.{closes}
 use Rattle.table.specs.Sound.{in_step}
