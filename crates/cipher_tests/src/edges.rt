@@ -3,7 +3,7 @@ use binary::BinaryField;
 use cipher::Cipher;
 use cipher::fault::CipherFault;
 use field::Field;
-use power::cipher::PowerCipher;
+use power::power_cipher::PowerCipher;
 use prime::PrimeField;
 use refusal::Refusal;
 use std::process::Abort;

@@ -2,7 +2,7 @@
 use binary::BinaryField;
 use cipher::Cipher;
 use field::Field;
-use power::cipher::PowerCipher;
+use power::power_cipher::PowerCipher;
 use prime::PrimeField;
 use std::test::Fail;
 

@@ -1,7 +1,7 @@
 // Locks undone, and two locks in both orders, at keys and values that a generator draws.
 use binary::BinaryField;
 use cipher::Cipher;
-use power::cipher::PowerCipher;
+use power::power_cipher::PowerCipher;
 use prime::PrimeField;
 use std::process::Abort;
 use std::test::Fail;

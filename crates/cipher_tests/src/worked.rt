@@ -2,7 +2,7 @@
 use binary::BinaryField;
 use cipher::Cipher;
 use cipher::fault::CipherFault;
-use power::cipher::PowerCipher;
+use power::power_cipher::PowerCipher;
 use prime::PrimeField;
 
 #[test]

@@ -6,7 +6,7 @@ mod steps;
 use binary::BinaryField;
 use cipher::Cipher;
 use cipher::fault::CipherFault;
-use power::cipher::PowerCipher;
+use power::power_cipher::PowerCipher;
 use prime::PrimeField;
 use refusal::Refusal;
 use std::io;

@@ -2,4 +2,4 @@
 #![tactic(auto)]
 
 mod arithmetic;
-pub mod cipher;
+pub mod power_cipher;

@@ -5,7 +5,7 @@
 mod hand;
 
 use hand::worked_hand;
-use power::cipher::PowerCipher;
+use power::power_cipher::PowerCipher;
 use prime::PrimeField;
 use refusal::Refusal;
 use session::{Replies, Reply, Script, Step, run_two};

@@ -4,7 +4,7 @@ use crate::locking::check_lock_refused;
 use binary::BinaryField;
 use cipher::Cipher;
 use field::Field;
-use power::cipher::PowerCipher;
+use power::power_cipher::PowerCipher;
 use prime::PrimeField;
 use seat::Seat;
 use seat::any::AnySeat;

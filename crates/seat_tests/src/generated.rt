@@ -2,7 +2,7 @@
 use crate::keyed::check_order_refused;
 use binary::BinaryField;
 use field::Field;
-use power::cipher::PowerCipher;
+use power::power_cipher::PowerCipher;
 use prime::PrimeField;
 use seat::Seat;
 use seat::fault::SeatFault;

@@ -1,7 +1,7 @@
 // Seats that hold a key and an order.
 use crate::lists::{check_all, numbers};
 use field::Field;
-use power::cipher::PowerCipher;
+use power::power_cipher::PowerCipher;
 use prime::PrimeField;
 use seat::Seat;
 use seat::fault::SeatFault;

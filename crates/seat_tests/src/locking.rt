@@ -3,7 +3,7 @@ use crate::keyed::made;
 use crate::lists::check_all;
 use cipher::Cipher;
 use cipher::fault::CipherFault;
-use power::cipher::PowerCipher;
+use power::power_cipher::PowerCipher;
 use prime::PrimeField;
 use refusal::Refusal;
 use seat::Seat;

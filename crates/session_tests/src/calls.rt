@@ -1,7 +1,7 @@
 // Calls and what they should answer, as plain lists.
 use binary::BinaryField;
 use cipher::Cipher;
-use power::cipher::PowerCipher;
+use power::power_cipher::PowerCipher;
 use prime::PrimeField;
 use refusal::Refusal;
 use session::{Reply, Script, Step, run};

@@ -6,7 +6,7 @@ mod steps;
 
 use binary::BinaryField;
 use cipher::Cipher;
-use power::cipher::PowerCipher;
+use power::power_cipher::PowerCipher;
 use prime::PrimeField;
 use seat::fault::SeatFault;
 use std::io;

@@ -1,7 +1,7 @@
 // The hand that the other tests start from: over the prime field, two seats, three cards, both keys 5,
 // orders 1 2 0 and 0 2 1.
 use cipher::Cipher;
-use power::cipher::PowerCipher;
+use power::power_cipher::PowerCipher;
 use prime::PrimeField;
 use refusal::Refusal;
 use std::alloc::Global;

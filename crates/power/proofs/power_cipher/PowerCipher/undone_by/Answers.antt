@@ -1,6 +1,6 @@
 use Rattle.std.proofs.Common.{◌∙◌}
 use Rattle.power.specs.KeysLemmas.{undo_answer}
-use Rattle.power.proofs.cipher.PowerCipher.undone_by.Goals as goal
+use Rattle.power.proofs.power_cipher.PowerCipher.undone_by.Goals as goal
 
 pub returns : goal.returns
 returns g c =
