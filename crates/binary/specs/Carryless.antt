@@ -1,4 +1,4 @@
--- Polynomials over two elements: bit i of a number is the coefficient of x^i, and bitXor is the sum.
+-- Polynomials over two elements: bit i of a number is the coefficient of x^i, and bit_xor is the sum.
 use Rattle.std.specs.Prelude.{◌≡◌, ℕ, zero, suc, ◌*◌, ◌/◌, ◌%◌, ◌^◌, ◌<◌, bit_xor}
 
 -- Horner's rule over the n low bits of a: the sum of b stepped i times, for each bit i that is set

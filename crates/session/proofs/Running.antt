@@ -2,8 +2,8 @@
 use Rattle.std.proofs.Common.{◌≡◌, ℕ, ◌+◌, ◌<◌, true, List, [], ◌∷◌, ◌++◌, map, length, get_or, take, Ok, Err, Result, sym, refl, ap, ◌∙◌, subst}
 use Rattle.std.proofs.lemmas.List.{map_more}
 use Rattle.cipher.specs.Cipher.{CipherMeaning}
-use Rattle.table.specs.State.{Move, State}
-use Rattle.table.specs.View.{View}
+use Rattle.table.specs.State.{Move, lock, draw, share, abandon, close, show, disclose, State}
+use Rattle.table.specs.View.{View, view_of}
 use Rattle.table.specs.Rules.{Answer, judge, after, within_limits}
 use Rattle.table.specs.ViewRules.{judged}
 use Rattle.table.specs.declared.fault.TableFault.{TableFault}
@@ -17,6 +17,16 @@ use Rattle.session.proofs.Accepted.{Accepted, run_accepted}
 use Rattle.session.proofs.Replay.{replay}
 use Rattle.session.proofs.Kept.{view_kept, audit_kept}
 
+-- a state is judged as its view is
+judge_viewed : (m : CipherMeaning) (t : State) (x : Move) → judge m t x ≡ judged m (view_of t) x
+judge_viewed m t (lock s deck) = refl
+judge_viewed m t (draw s p) = refl
+judge_viewed m t (share s v) = refl
+judge_viewed m t abandon = refl
+judge_viewed m t close = refl
+judge_viewed m t (show d c) = refl
+judge_viewed m t (disclose s k o) = refl
+
 module _ (m : CipherMeaning) (S D : ℕ) where
   -- one call more
   accepted_more : (calls : List Asked) (c : Asked) (log : Log) → accepted m S D log (calls ++ (c ∷ [])) ≡ with_call m S D (accepted m S D log calls) c
@@ -29,7 +39,7 @@ module _ (m : CipherMeaning) (S D : ℕ) where
 
   module _ (limits : within_limits S D ≡ true) (log : Log) (all : Accepted m S D log) where
     judge_kept : (x : Move) → judge m (replay S D log) x ≡ judged m (view S D log) x
-    judge_kept x = ap (λ (v : View). judged m v x) (view_kept m S D limits log all)
+    judge_kept x = judge_viewed m (replay S D log) x ∙ ap (λ (v : View). judged m v x) (view_kept m S D limits log all)
 
     answer_kept : (c : Asked) → step_answer m (replay S D log) c ≡ answer m S D log c
     answer_kept (move x) = ap (reply Entered) (judge_kept x)

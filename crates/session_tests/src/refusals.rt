@@ -3,7 +3,6 @@ use crate::calls::Ask::*;
 use crate::calls::Told::*;
 use crate::calls::{Ask, BINARY, PRIME, Told, check_calls, check_reply};
 use crate::hands::seated;
-use field::Field;
 use refusal::Refusal;
 use session::{Script, run};
 use std::alloc::Global;
