@@ -21,8 +21,8 @@ rearranged_permutation o p e f g =
 pub composed_length : (size : ℕ) (os : List (List ℕ)) → length (composed size os) ≡ size
 composed_length size os = length-map-range_with_len (composed_at os) 0 size
 
-pub composed_getD : (size : ℕ) (os : List (List ℕ)) (i : ℕ) → i < size → get_or (composed size os) i 0 ≡ composed_at os i
-composed_getD size os i h = get_or-map-range_with_len (composed_at os) 0 size i i 0 h (omega arith)
+pub composed_get_or : (size : ℕ) (os : List (List ℕ)) (i : ℕ) → i < size → get_or (composed size os) i 0 ≡ composed_at os i
+composed_get_or size os i h = get_or-map-range_with_len (composed_at os) 0 size i i 0 h (omega arith)
 
 pub rearranged_composed : (size : ℕ) (o : List ℕ) (os : List (List ℕ)) → rearranged 0 o (composed size os) ≡ composed size (o ∷ os)
 rearranged_composed size o os = map-map (λ i. get_or o i 0) (composed_at os) (upto size)
@@ -36,4 +36,4 @@ composed_permutation size (o ∷ os) all =
 pub composed_at_below : (size : ℕ) (os : List (List ℕ)) → Orders size os → (i : ℕ) → i < size → composed_at os i < size
 composed_at_below size os all i h =
     let n = composed_length size os in
-    omega (arith, composed_getD size os i h, permutation_within (composed size os) (composed_permutation size os all) i (omega arith))
+    omega (arith, composed_get_or size os i h, permutation_within (composed size os) (composed_permutation size os all) i (omega arith))

@@ -17,7 +17,7 @@ use Rattle.session.proofs.Accepted.{Accepted, limits_of}
 use Rattle.session.proofs.Parts.{up_to_last, up_to_other, up_to_none}
 use Rattle.session.proofs.Phases.{dealing_locked}
 use Rattle.session.proofs.Dealt.{dealt_below}
-use Rattle.session.proofs.Lists.{part_last, get_d_set, getD_added, told_changed, told_added, some_changed, some_added}
+use Rattle.session.proofs.Lists.{part_last, get_or_set, get_or_added, told_changed, told_added, some_changed, some_added}
 use Rattle.session.proofs.Replay.{replay, draws_kept, seats_kept, cards_kept, decks_long}
 
 -- what does not look at moves of this kind is the same in both
@@ -70,7 +70,7 @@ module _ (d : Drawn) (v : ℕ) (r : DrawRecord) (h : Records d v r) where
     seat = h.seat;
     long = length-set r.shared s true ∙ h.long;
     shared = λ k.
-        get_d_set false r.shared s true k (omega (arith, h.long))
+        get_or_set false r.shared s true k (omega (arith, h.long))
         ∙ or_cond (eqb k s) (eqb s k) (get_or r.shared k false) (eqb_swap k s)
         ∙ ap (λ (b : Bool). eqb s k || b) (h.shared k);
     shares = omega (arith, h.shares);
@@ -124,7 +124,7 @@ module _ (m : CipherMeaning) (S D : ℕ) (first : List ℕ) where
     changed x log r same one kept h d =
         let t = replay S D log in
         let count = draws_kept S D log in
-        subst (Records (drawn S d (x ∷ log)) (chain first (up_to d (x ∷ log)))) (sym (get_d_set no_draw t.draws (last_draw t) r d (omega (arith, count))))
+        subst (Records (drawn S d (x ∷ log)) (chain first (up_to d (x ∷ log)))) (sym (get_or_set no_draw t.draws (last_draw t) r d (omega (arith, count))))
         (elim (cases_Bool (eqb d (last_draw t))) [
           | inl is ↦
               let whole = up_to_last d (x ∷ log) (omega (arith, same, count, eqb-true d (last_draw t) is)) in
@@ -143,7 +143,7 @@ module _ (m : CipherMeaning) (S D : ℕ) (first : List ℕ) where
         let t = replay S D log in
         let x = draw s p in
         let count = draws_kept S D log in
-        subst (Records (drawn S d (x ∷ log)) (chain first (up_to d (x ∷ log)))) (sym (getD_added no_draw t.draws r d))
+        subst (Records (drawn S d (x ∷ log)) (chain first (up_to d (x ∷ log)))) (sym (get_or_added no_draw t.draws r d))
         (elim (cases_Bool (eqb d (length t.draws))) [
           | inl is ↦
               let whole = up_to_last d (x ∷ log) (omega (arith, count, eqb-true d (length t.draws) is)) in
@@ -161,7 +161,7 @@ module _ (m : CipherMeaning) (S D : ℕ) (first : List ℕ) where
     shown_once e log below kept d =
         let t = replay S D log in
         let of = Records (drawn S d log) (chain first (up_to d log)) in
-        subst of (sym (get_d_set no_draw t.draws e (revealed (draw_at t e)) d below))
+        subst of (sym (get_or_set no_draw t.draws e (revealed (draw_at t e)) d below))
         (elim (cases_Bool (eqb d e)) [
           | inl is ↦
               subst of (sym (cond-true _ _ _ is))
@@ -219,7 +219,7 @@ module _ (m : CipherMeaning) (S D : ℕ) (first : List ℕ) where
         told_changed no_draw (λ (r : DrawRecord). r.shown) (replay S D log).draws _ _ d (last_within log all.0.running) refl ∙ shown_kept log all.1 d
     shown_kept (close ∷ log) all d = shown_kept log all.1 d
     shown_kept (show e c ∷ log) all d =
-        ap (λ (r : DrawRecord). r.shown) (get_d_set no_draw (replay S D log).draws e _ d (dealt_within log e all.0.dealt))
+        ap (λ (r : DrawRecord). r.shown) (get_or_set no_draw (replay S D log).draws e _ d (dealt_within log e all.0.dealt))
         ∙ cond_shown (eqb d e) (revealed (draw_at (replay S D log) e)) (draw_at (replay S D log) d) refl
         ∙ or_cond (eqb d e) (eqb e d) _ (eqb_swap d e)
         ∙ ap (λ (b : Bool). eqb e d || b) (shown_kept log all.1 d)

@@ -29,31 +29,31 @@ module _ {A : Type 0} (long : ℕ) where
 
 module _ {A : Type 0} (z : A) where
   -- an element changed, or one more, read at any place
-  pub get_d_set : (xs : List A) (i : ℕ) (x : A) (k : ℕ) → i < length xs → get_or (set xs i x) k z ≡ cond (eqb k i) x (get_or xs k z)
-  get_d_set xs i x k below =
+  pub get_or_set : (xs : List A) (i : ℕ) (x : A) (k : ℕ) → i < length xs → get_or (set xs i x) k z ≡ cond (eqb k i) x (get_or xs k z)
+  get_or_set xs i x k below =
       elim (cases_Bool (eqb k i)) [
         | inl is ↦ ap (λ (j : ℕ). get_or (set xs i x) j z) (eqb-true k i is) ∙ get_or-set_same xs i x z below ∙ sym (cond-true _ _ _ is)
         | inr other ↦ get_or-set_other xs i k x z (eqb-false k i other) ∙ sym (cond-false _ _ _ other)
       ]
 
-  getD_before : (xs : List A) (x : A) (k : ℕ) → (k ≡ length xs → ⊥) → get_or (xs ++ (x ∷ [])) k z ≡ get_or xs k z
-  getD_before [] x zero other = absurd (other refl)
-  getD_before [] x (suc k) other = refl
-  getD_before (y ∷ xs) x zero other = refl
-  getD_before (y ∷ xs) x (suc k) other = getD_before xs x k (λ is. other (ap suc is))
+  get_or_before : (xs : List A) (x : A) (k : ℕ) → (k ≡ length xs → ⊥) → get_or (xs ++ (x ∷ [])) k z ≡ get_or xs k z
+  get_or_before [] x zero other = absurd (other refl)
+  get_or_before [] x (suc k) other = refl
+  get_or_before (y ∷ xs) x zero other = refl
+  get_or_before (y ∷ xs) x (suc k) other = get_or_before xs x k (λ is. other (ap suc is))
 
-  pub getD_added : (xs : List A) (x : A) (k : ℕ) → get_or (xs ++ (x ∷ [])) k z ≡ cond (eqb k (length xs)) x (get_or xs k z)
-  getD_added xs x k =
+  pub get_or_added : (xs : List A) (x : A) (k : ℕ) → get_or (xs ++ (x ∷ [])) k z ≡ cond (eqb k (length xs)) x (get_or xs k z)
+  get_or_added xs x k =
       elim (cases_Bool (eqb k (length xs))) [
         | inl is ↦ get_or_push xs x z k (sym (eqb-true k (length xs) is)) ∙ sym (cond-true _ _ _ is)
-        | inr other ↦ getD_before xs x k (eqb-false k (length xs) other) ∙ sym (cond-false _ _ _ other)
+        | inr other ↦ get_or_before xs x k (eqb-false k (length xs) other) ∙ sym (cond-false _ _ _ other)
       ]
 
   -- what is told of the elements stays where the changed or added one tells the same
   module _ {B : Type 0} (f : A → B) where
     pub told_changed : (xs : List A) (i : ℕ) (x : A) (k : ℕ) → i < length xs → f x ≡ f (get_or xs i z) → f (get_or (set xs i x) k z) ≡ f (get_or xs k z)
     told_changed xs i x k below same =
-        ap f (get_d_set xs i x k below)
+        ap f (get_or_set xs i x k below)
         ∙ elim (cases_Bool (eqb k i)) [
           | inl is ↦ ap f (cond-true _ _ _ is) ∙ same ∙ ap (λ (j : ℕ). f (get_or xs j z)) (sym (eqb-true k i is))
           | inr other ↦ ap f (cond-false _ _ _ other)
@@ -61,7 +61,7 @@ module _ {A : Type 0} (z : A) where
 
     pub told_added : (xs : List A) (x : A) (k : ℕ) → f x ≡ f z → f (get_or (xs ++ (x ∷ [])) k z) ≡ f (get_or xs k z)
     told_added xs x k same =
-        ap f (getD_added xs x k)
+        ap f (get_or_added xs x k)
         ∙ elim (cases_Bool (eqb k (length xs))) [
           | inl is ↦ ap f (cond-true _ _ _ is) ∙ same ∙ ap f (sym (get_or_past xs k z (omega (arith, eqb-true k (length xs) is))))
           | inr other ↦ ap f (cond-false _ _ _ other)
