@@ -12,11 +12,11 @@ pub enum CipherFault {
     UnlawfulKey(u32),
 }
 
-impl CipherFault {
-    pub fn refusal(&self) -> Refusal
-        ensures { result ≡ refusal_of self.now }
-    {
-        match *self {
+impl From<CipherFault> for Refusal {
+    ghost from_gives = { λ fault r. r ≡ refusal_of fault };
+
+    fn from(fault: CipherFault) -> Refusal {
+        match fault {
             CipherFault::NotValue { place, value } => {
                 Refusal::with_both(5, place as u64, u64::from(value))
             }

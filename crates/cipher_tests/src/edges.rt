@@ -69,7 +69,7 @@ fn binary_edges(rt: HostRuntime) {
 
 #[test]
 fn refusals_as_told(rt: HostRuntime) {
-    let value = CipherFault::NotValue { place: 0, value: 9 }.refusal();
+    let value = Refusal::from(CipherFault::NotValue { place: 0, value: 9 });
     assert_eq!(rt;
         value,
         Refusal {
@@ -78,7 +78,7 @@ fn refusals_as_told(rt: HostRuntime) {
             second: Some(9),
         }
     );
-    let card = CipherFault::NoCard(52).refusal();
+    let card = Refusal::from(CipherFault::NoCard(52));
     assert_eq!(rt;
         card,
         Refusal {
@@ -87,7 +87,7 @@ fn refusals_as_told(rt: HostRuntime) {
             second: None,
         }
     );
-    let key = CipherFault::UnlawfulKey(7).refusal();
+    let key = Refusal::from(CipherFault::UnlawfulKey(7));
     assert_eq!(rt;
         key,
         Refusal {

@@ -34,7 +34,7 @@ fn show_deal<C: Cipher>(
     println!(rt; "Card {CARD} is dealt to seat 1 over the {field} field.")?;
     match deal_card(cipher, CARD, KEYS) {
         Ok(deal) => show_steps(rt, &deal)?,
-        Err(fault) => show_refusal(rt, "The deal", fault.refusal())?,
+        Err(fault) => println!(rt; "The deal is {}.", Refusal::from(fault))?,
     }
     show_lock(rt, cipher, unlawful, 9)?;
     show_lock(rt, cipher, KEYS.0, 0)
@@ -61,17 +61,6 @@ fn show_lock<C: Cipher>(rt: &HostRuntime, cipher: &C, key: u32, value: u32) -> i
     print!(rt; "  Locking {value} under key {key}")?;
     match cipher.lock(key, value) {
         Ok(locked) => println!(rt; " gives {locked}."),
-        Err(fault) => show_refusal(rt, "", fault.refusal()),
+        Err(fault) => println!(rt; " is {}.", Refusal::from(fault)),
     }
-}
-
-fn show_refusal(rt: &HostRuntime, what: &str, refusal: Refusal) -> io::Result<()> {
-    print!(rt; "{what} is refused by {}", refusal.number)?;
-    if let Some(first) = refusal.first {
-        print!(rt; " with {first}")?;
-    }
-    if let Some(second) = refusal.second {
-        print!(rt; " and {second}")?;
-    }
-    println!(rt; ".")
 }

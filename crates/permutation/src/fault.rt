@@ -11,11 +11,11 @@ pub enum OrderFault {
     NotOrder,
 }
 
-impl OrderFault {
-    pub fn refusal(&self) -> Refusal
-        ensures { result ≡ refusal_of self.now }
-    {
-        match *self {
+impl From<OrderFault> for Refusal {
+    ghost from_gives = { λ fault r. r ≡ refusal_of fault };
+
+    fn from(fault: OrderFault) -> Refusal {
+        match fault {
             OrderFault::WrongLength(length) => Refusal::with(4, length as u64),
             OrderFault::NotOrder => Refusal::alone(17),
         }

@@ -1,8 +1,11 @@
 // A refusal as it is told to whoever asked: its number, and what is returned with the number.
 #![tactic(auto)]
 
-ghost use Rattle.std.specs.Prelude.{◌≡◌};
+ghost use Rattle.std.specs.Prelude.{◌≡◌, Some};
 ghost use Rattle.refusal.specs.Refused.{refused, refused_with, refused_with_both};
+ghost use Rattle.refusal.specs.Printed.{printed};
+
+use std::fmt;
 
 #[derive(Clone, Copy, PartialEq, Eq, Debug)]
 pub struct Refusal {
@@ -40,5 +43,21 @@ impl Refusal {
             first: Some(first),
             second: Some(second),
         }
+    }
+}
+
+// The number, and what is returned with it.
+impl fmt::Display for Refusal {
+    ghost output = { λ refusal. Some (printed refusal) };
+
+    fn fmt<W: fmt::Write>(&self, f: &mut fmt::Formatter<W>) -> fmt::Result {
+        write!(f, "refused by {}", self.number)?;
+        if let Some(first) = self.first {
+            write!(f, " with {first}")?;
+        }
+        if let Some(second) = self.second {
+            write!(f, " and {second}")?;
+        }
+        Ok(())
     }
 }

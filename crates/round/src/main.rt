@@ -28,7 +28,7 @@ fn main(rt: HostRuntime) -> io::Result<()> {
 
 fn show_run(rt: &HostRuntime, script: &Script, replies: &Replies) -> io::Result<()> {
     match replies {
-        Err(fault) => show_refusal(rt, fault.refusal()),
+        Err(fault) => show_refusal(rt, *fault),
         Ok(replies) => {
             for (step, reply) in script.steps.iter().zip(replies.iter()) {
                 show_step(rt, step)?;
@@ -62,7 +62,7 @@ fn show_call(rt: &HostRuntime, call: &Call) -> io::Result<()> {
 
 fn show_reply(rt: &HostRuntime, step: &Step, reply: &Result<Reply, TableFault>) -> io::Result<()> {
     match (step, reply) {
-        (_, Err(fault)) => show_refusal(rt, fault.refusal()),
+        (_, Err(fault)) => show_refusal(rt, *fault),
         (Step::Move(Call::Close), Ok(Reply::Entered(phase))) => println!(rt; ": phase {phase}."),
         (_, Ok(Reply::Entered(entry))) => println!(rt; ": entry {entry}."),
         (_, Ok(Reply::Audited(verdict))) => show_verdict(rt, *verdict),
@@ -83,6 +83,6 @@ fn show_verdict(rt: &HostRuntime, verdict: Verdict) -> io::Result<()> {
     }
 }
 
-fn show_refusal(rt: &HostRuntime, refusal: Refusal) -> io::Result<()> {
-    println!(rt; ": refused by {}.", refusal.number)
+fn show_refusal(rt: &HostRuntime, fault: TableFault) -> io::Result<()> {
+    println!(rt; ": {}.", Refusal::from(fault))
 }

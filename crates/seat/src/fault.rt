@@ -23,15 +23,15 @@ impl From<CipherFault> for SeatFault {
     }
 }
 
-impl SeatFault {
-    pub fn refusal(&self) -> Refusal
-        ensures { result ≡ refusal_of self.now }
-    {
-        match *self {
+impl From<SeatFault> for Refusal {
+    ghost from_gives = { λ fault r. r ≡ refusal_of fault };
+
+    fn from(fault: SeatFault) -> Refusal {
+        match fault {
             SeatFault::WrongLength(length) => Refusal::with(4, length as u64),
             SeatFault::NotOrder => Refusal::alone(17),
             SeatFault::UnfitGenerator => Refusal::with(20, 0),
-            SeatFault::Cipher(fault) => fault.refusal(),
+            SeatFault::Cipher(fault) => Refusal::from(fault),
         }
     }
 }

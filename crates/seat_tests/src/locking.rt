@@ -128,12 +128,12 @@ fn unlocks_refused(rt: HostRuntime) -> Result<(), Fail> {
 
 #[test]
 fn refusals_as_told(rt: HostRuntime) -> Result<(), Fail> {
-    assert_eq!(rt; SeatFault::WrongLength(53).refusal(), Refusal::with(4, 53));
-    assert_eq!(rt; SeatFault::NotOrder.refusal(), Refusal::alone(17));
-    assert_eq!(rt; SeatFault::UnfitGenerator.refusal(), Refusal::with(20, 0));
-    assert_eq!(rt; not_value(2, 9).refusal(), Refusal::with_both(5, 2, 9));
+    assert_eq!(rt; Refusal::from(SeatFault::WrongLength(53)), Refusal::with(4, 53));
+    assert_eq!(rt; Refusal::from(SeatFault::NotOrder), Refusal::alone(17));
+    assert_eq!(rt; Refusal::from(SeatFault::UnfitGenerator), Refusal::with(20, 0));
+    assert_eq!(rt; Refusal::from(not_value(2, 9)), Refusal::with_both(5, 2, 9));
     assert_eq!(rt;
-        SeatFault::Cipher(CipherFault::UnlawfulKey(7)).refusal(),
+        Refusal::from(SeatFault::Cipher(CipherFault::UnlawfulKey(7))),
         Refusal::with(16, 7)
     );
     Ok(())

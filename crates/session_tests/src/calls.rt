@@ -79,11 +79,7 @@ pub fn check_reply(
     reply: Result<Reply, TableFault>,
     told: Told,
 ) -> Result<(), Fail> {
-    let answer = match reply {
-        Ok(answer) => Ok(answer),
-        Err(fault) => Err(fault.refusal()),
-    };
-    assert_eq!(rt; answer, due(told), "call {number}");
+    assert_eq!(rt; reply.map_err(Refusal::from), due(told), "call {number}");
     Ok(())
 }
 

@@ -29,7 +29,7 @@ fn check_size(
             Ok(())
         },
         Err(fault) => {
-            assert!(rt; !within && fault.refusal() == Refusal::alone(19));
+            assert!(rt; !within && Refusal::from(fault) == Refusal::alone(19));
             Ok(())
         },
     }

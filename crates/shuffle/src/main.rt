@@ -8,7 +8,7 @@ use binary::BinaryField;
 use cipher::Cipher;
 use power::power_cipher::PowerCipher;
 use prime::PrimeField;
-use seat::fault::SeatFault;
+use refusal::Refusal;
 use std::io;
 use steps::{SIZE, Steps, shuffle_twice};
 
@@ -21,7 +21,7 @@ fn show_shuffle<C: Cipher>(rt: &HostRuntime, field: &str, cipher: &C) -> io::Res
     println!(rt; "Two seats lock and shuffle {SIZE} cards over the {field} field.")?;
     match shuffle_twice(cipher) {
         Ok(steps) => show_steps(rt, &steps),
-        Err(fault) => show_fault(rt, fault),
+        Err(fault) => println!(rt; "  That is {}.", Refusal::from(fault)),
     }
 }
 
@@ -52,8 +52,4 @@ fn show_steps(rt: &HostRuntime, steps: &Steps) -> io::Result<()> {
         "  Seat 0's order, rearranged by seat 1's, is {:?}: {alike}.",
         steps.composed
     )
-}
-
-fn show_fault(rt: &HostRuntime, fault: SeatFault) -> io::Result<()> {
-    println!(rt; "  That is refused by {}.", fault.refusal().number)
 }

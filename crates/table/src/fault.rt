@@ -57,11 +57,11 @@ impl From<SeatedFault> for TableFault {
     }
 }
 
-impl TableFault {
-    pub fn refusal(&self) -> Refusal
-        ensures { result ≡ refusal_of self.now }
-    {
-        match *self {
+impl From<TableFault> for Refusal {
+    ghost from_gives = { λ fault r. r ≡ refusal_of fault };
+
+    fn from(fault: TableFault) -> Refusal {
+        match fault {
             TableFault::NoMemory => Refusal::alone(0),
             TableFault::WrongPhase(phase) => Refusal::with(1, u64::from(phase.number())),
             TableFault::NoSeat(seat) => Refusal::with(2, u64::from(seat)),
@@ -80,7 +80,7 @@ impl TableFault {
             TableFault::NotOrder => Refusal::alone(17),
             TableFault::FewDisclosures(count) => Refusal::with(18, u64::from(count)),
             TableFault::OutsideLimits => Refusal::alone(19),
-            TableFault::Cipher { seat: _, fault } => fault.refusal(),
+            TableFault::Cipher { seat: _, fault } => Refusal::from(fault),
         }
     }
 }

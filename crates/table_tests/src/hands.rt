@@ -35,7 +35,7 @@ pub fn refused(
     match answer {
         Ok(_) => Err(Fail::new("accepted")),
         Err(fault) => {
-            assert_eq!(rt; fault.refusal(), refusal);
+            assert_eq!(rt; Refusal::from(fault), refusal);
             Ok(())
         },
     }

@@ -23,7 +23,7 @@ fn limits(rt: HostRuntime) -> Result<(), Fail> {
     match Table::start(heap, 9, 3) {
         Ok(_) => Err(Fail::new("accepted")),
         Err(fault) => {
-            assert_eq!(rt; fault.refusal(), Refusal::alone(19));
+            assert_eq!(rt; Refusal::from(fault), Refusal::alone(19));
             Ok(())
         },
     }
