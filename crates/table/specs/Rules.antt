@@ -1,5 +1,6 @@
 -- Which moves a table accepts, and how it refuses the others.
 use Rattle.std.specs.Prelude.{ℕ, ◌-◌, Bool, true, false, cond, not, ◌&&◌, ◌||◌, List, [], ◌∷◌, length, Ok, Err, Result, ◌==◌, nat_eq, nat_le, nat_lt, slice_index_or}
+use Rattle.std.specs.List.{list_any}
 use Rattle.cipher.specs.Cipher.{CipherMeaning}
 use Rattle.cipher.specs.Decks.{deck_answer}
 use Rattle.cipher.specs.declared.fault.CipherFault.{CipherFault}
@@ -35,8 +36,7 @@ with_seat seat (Err fault) = Err (record { seat = seat; fault = fault })
 
 -- some element passes the test
 abbrev pub some : {A : Type 0} → (A → Bool) → List A → Bool
-some test [] = false
-some test (x ∷ xs) = test x || some test xs
+some test xs = list_any test xs
 
 -- a draw, running or ended, took the place
 abbrev pub taken : List DrawRecord → ℕ → Bool

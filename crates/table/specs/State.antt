@@ -1,5 +1,6 @@
 -- A table by what has been entered, and what each move makes of it.
 use Rattle.std.specs.Prelude.{◌≡◌, ℕ, ◌+◌, ◌-◌, ◌*◌, ◌<◌, Bool, true, false, cond, List, [], ◌∷◌, ◌++◌, length, replicate, ◌==◌, slice_index, slice_index_or, slice_set}
+pub use Rattle.table.specs.Phases.{phase_after}
 use Rattle.table.specs.declared.record.DrawRecord.{DrawRecord}
 use Rattle.table.specs.declared.record.Disclosure.{Disclosure}
 use Rattle.table.specs.declared.record.Event.{Event}
@@ -134,12 +135,6 @@ revealed d = record {
   end = d.end;
   shown = true;
 }
-
-abbrev pub phase_after : Phase → Phase
-phase_after Locking = Dealing
-phase_after Dealing = Showdown
-phase_after Showdown = Audit
-phase_after Audit = Audit
 
 -- the table with one draw changed, and the move noted
 abbrev pub with_draw : State → ℕ → DrawRecord → Event → State

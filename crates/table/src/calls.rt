@@ -150,12 +150,7 @@ impl Table {
         if let Some(running) = self.running() {
             return Err(TableFault::DrawRunning(running));
         }
-        self.held.phase = match self.held.phase {
-            Phase::Locking => Phase::Dealing,
-            Phase::Dealing => Phase::Showdown,
-            Phase::Showdown => Phase::Audit,
-            Phase::Audit => Phase::Audit,
-        };
+        self.held.phase = self.held.phase.next();
         self.held.moves.push_reserved(Event::Close);
         Ok(usize::from(self.held.phase.number()))
     }
@@ -179,12 +174,16 @@ impl Table {
         if deck.len() != usize::from(self.held.cards) {
             return Err(TableFault::WrongLength(deck.len()));
         }
-        at_seat(seat, check_deck(cipher, deck))?;
+        check_deck(cipher, deck).map_err(|fault| SeatedFault { seat, fault })?;
         let entry = self.entry_number();
         // the room was reserved when the table was started
         let _ = self.held.decks.extend_from_slice(deck);
         self.held.locked += 1;
-        self.held.phase = phase_of(self.held.locked, self.held.seats);
+        self.held.phase = if self.held.locked == self.held.seats {
+            Phase::Dealing
+        } else {
+            Phase::Locking
+        };
         self.held.moves.push_reserved(Event::Lock { seat });
         Ok(entry)
     }
@@ -222,26 +221,5 @@ impl Table {
         let _ = self.held.orders.extend_from_slice(order);
         self.held.moves.push_reserved(Event::Disclose { seat, key });
         Ok(entry)
-    }
-}
-
-// A cipher's fault with the seat whose move it was.
-fn at_seat(seat: u8, answer: Result<(), CipherFault>) -> Result<(), SeatedFault>
-    ensures { result ≡ with_seat seat answer }
-{
-    match answer {
-        Ok(()) => Ok(()),
-        Err(fault) => Err(SeatedFault { seat, fault }),
-    }
-}
-
-// The last lock begins the dealing.
-fn phase_of(locked: u8, seats: u8) -> Phase
-    ensures { result ≡ (if nat_eq locked seats then Dealing else Locking) }
-{
-    if locked == seats {
-        Phase::Dealing
-    } else {
-        Phase::Locking
     }
 }

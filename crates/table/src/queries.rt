@@ -19,14 +19,8 @@ impl Table {
     pub(crate) fn running(&self) -> Option<u8>
         ensures { MatchOption result (running (state_of self.now) ≡ false) (λ i. Runs (state_of self.now) i) }
     {
-        let count = self.held.draws.len();
-        if count == 0 {
-            return None;
-        }
-        match self.held.draws[count - 1].end {
-            End::Running => Some((count - 1) as u8),
-            _ => None,
-        }
+        let last = self.held.draws.last()?;
+        (last.end == End::Running).then_some((self.held.draws.len() - 1) as u8)
     }
 }
 
@@ -35,22 +29,14 @@ impl Record {
     pub(crate) fn is_taken(&self, place: u8) -> bool
         ensures { result ≡ taken self.now.draws.items place }
     {
-        for draw in self.draws.iter() {
-            if draw.place == place {
-                return true;
-            }
-        }
-        false
+        self.draws.iter().any(|draw| draw.place == place)
     }
 
     pub(crate) fn has_disclosed(&self, seat: u8) -> bool
         ensures { result ≡ has_disclosed self.now.disclosures.items seat }
     {
-        for disclosure in self.disclosures.iter() {
-            if disclosure.seat == seat {
-                return true;
-            }
-        }
-        false
+        self.disclosures
+            .iter()
+            .any(|disclosure| disclosure.seat == seat)
     }
 }

@@ -1,6 +1,6 @@
 // What a table holds, plainly: the moves that were made, and what they have come to.
 ghost use Rattle.std.specs.Prelude.{◌≡◌};
-ghost use Rattle.table.specs.Phases.{phase_number};
+ghost use Rattle.table.specs.Phases.{phase_number, phase_after};
 
 #[derive(Clone, Copy, PartialEq, Eq, Debug)]
 pub enum Phase {
@@ -19,6 +19,18 @@ impl Phase {
             Phase::Dealing => 1,
             Phase::Showdown => 2,
             Phase::Audit => 3,
+        }
+    }
+
+    // The phase that a close begins.
+    pub(crate) fn next(self) -> Phase
+        ensures { result ≡ phase_after self }
+    {
+        match self {
+            Phase::Locking => Phase::Dealing,
+            Phase::Dealing => Phase::Showdown,
+            Phase::Showdown => Phase::Audit,
+            Phase::Audit => Phase::Audit,
         }
     }
 }

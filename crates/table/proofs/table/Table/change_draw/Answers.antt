@@ -8,29 +8,21 @@ push_reserved-requires c =
     let below : c.args.number < length (vec_items t.held.draws) = omega (arith, c.requires.within, t.held.draws.ok.0) in
     room_for_one t.held (sound_table t) c.args.number c.args.changed below c.requires.place c.requires.fair c.requires.more
 
-pub invariant_of-self : goal.invariant_of-self
-invariant_of-self c =
+pub invariant_of-self-clause-draws_fair : goal.invariant_of-self-clause-draws_fair
+invariant_of-self-clause-draws_fair c =
     let t = c.args.self.now in
-    let s = sound_table t in
     let below : c.args.number < length (vec_items t.held.draws) = omega (arith, c.requires.within, t.held.draws.ok.0) in
-    let fair_now = still_fair t.held s c.args.number c.args.changed below c.requires.place c.requires.fair c.requires.more in
-    let different_now = still_different t.held s c.args.number c.args.changed below c.requires.place c.requires.fair c.requires.more in
-    let more = one_more t.held s c.args.number c.args.changed below c.requires.place c.requires.fair c.requires.more in
-    record {
-      seats_least = s.seats_least;
-      seats_most = s.seats_most;
-      cards_least = s.cards_least;
-      cards_most = s.cards_most;
-      step = s.step;
-      decks_long = s.decks_long;
-      orders_long = s.orders_long;
-      draws_fair = fair_now;
-      places_different = different_now;
-      disclosures_different = s.disclosures_different;
-      moves_long = omega (arith, more, c.push_reserved.ensures.len, s.moves_long);
-      decks_room = s.decks_room;
-      orders_room = s.orders_room;
-      draws_room = s.draws_room;
-      disclosures_room = s.disclosures_room;
-      moves_room = omega (arith, s.moves_room, c.push_reserved.ensures.capacity);
-    }
+    still_fair t.held (sound_table t) c.args.number c.args.changed below c.requires.place c.requires.fair c.requires.more
+
+pub invariant_of-self-clause-places_different : goal.invariant_of-self-clause-places_different
+invariant_of-self-clause-places_different c =
+    let t = c.args.self.now in
+    let below : c.args.number < length (vec_items t.held.draws) = omega (arith, c.requires.within, t.held.draws.ok.0) in
+    still_different t.held (sound_table t) c.args.number c.args.changed below c.requires.place c.requires.fair c.requires.more
+
+pub invariant_of-self-clause-moves_long : goal.invariant_of-self-clause-moves_long
+invariant_of-self-clause-moves_long c =
+    let t = c.args.self.now in
+    let below : c.args.number < length (vec_items t.held.draws) = omega (arith, c.requires.within, t.held.draws.ok.0) in
+    let more = one_more t.held (sound_table t) c.args.number c.args.changed below c.requires.place c.requires.fair c.requires.more in
+    omega (arith, more, c.push_reserved.ensures.len, (sound_table t).moves_long)

@@ -17,31 +17,21 @@ push_reserved-requires-2 g c =
     let d : Disclosure = record { seat = c.args.seat; key = c.args.key } in
     room_to_disclose t.held (sound_table t) d c.if-seat-self.false (sym c.if-has_disclosed.ensures)
 
-pub invariant_of-self : goal.invariant_of-self
-invariant_of-self g c =
+pub invariant_of-self-clause-disclosures_different : goal.invariant_of-self-clause-disclosures_different
+invariant_of-self-clause-disclosures_different g c =
+    let h = c.args.self.now.held in
+    let d : Disclosure = record { seat = c.args.seat; key = c.args.key } in
+    ap (different (λ e. e.seat) h.seats) c.push_reserved.ensures.items
+    ∙ disclosed_different h (sound_table c.args.self.now) d c.if-seat-self.false (sym c.if-has_disclosed.ensures)
+
+pub invariant_of-self-clause-orders_long : goal.invariant_of-self-clause-orders_long
+invariant_of-self-clause-orders_long g c =
     let h = c.args.self.now.held in
     let s = sound_table c.args.self.now in
     let d : Disclosure = record { seat = c.args.seat; key = c.args.key } in
-    let free = sym c.if-has_disclosed.ensures in
     let same : length c.args.order.now ≡ h.cards = c.if-order-from.false ∙ c.from.ensures in
-    let fits : vec_len h.orders + length c.args.order.now ≤ vec_capacity h.orders = omega (arith, same, room_for_order h s d c.if-seat-self.false free) in
+    let fits : vec_len h.orders + length c.args.order.now ≤ vec_capacity h.orders =
+    omega (arith, same, room_for_order h s d c.if-seat-self.false (sym c.if-has_disclosed.ensures))
+    in
     let long = c.extend_from_slice.ensures.len ∙ cond-true _ _ _ (c.extend_from_slice.ensures.succeeds fits) in
-    let different_now = ap (different (λ e. e.seat) h.seats) c.push_reserved.ensures.items ∙ disclosed_different h s d c.if-seat-self.false free in
-    record {
-      seats_least = s.seats_least;
-      seats_most = s.seats_most;
-      cards_least = s.cards_least;
-      cards_most = s.cards_most;
-      step = s.step;
-      decks_long = s.decks_long;
-      orders_long = omega (arith, long, c.push_reserved.ensures.len, suc-mul (vec_len h.disclosures) h.cards, ap (λ n. n * h.cards) c.push_reserved.ensures.len, s.orders_long);
-      draws_fair = s.draws_fair;
-      places_different = s.places_different;
-      disclosures_different = different_now;
-      moves_long = omega (arith, c.push_reserved.ensures.len, c.push_reserved-2.ensures.len, s.moves_long);
-      decks_room = s.decks_room;
-      orders_room = omega (arith, s.orders_room, c.extend_from_slice.ensures.capacity);
-      draws_room = s.draws_room;
-      disclosures_room = omega (arith, s.disclosures_room, c.push_reserved.ensures.capacity);
-      moves_room = omega (arith, s.moves_room, c.push_reserved-2.ensures.capacity);
-    }
+    omega (arith, long, c.push_reserved.ensures.len, suc-mul (vec_len h.disclosures) h.cards, ap (λ n. n * h.cards) c.push_reserved.ensures.len, s.orders_long)
