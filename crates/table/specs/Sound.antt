@@ -1,5 +1,5 @@
 -- What holds of every table's record, and the room that it has for a whole hand.
-use Rattle.std.specs.Prelude.{ℕ, ◌+◌, ◌*◌, Bool, true, cond, not, ◌&&◌, List, [], ◌∷◌, ◌==◌, nat_eq, nat_lt}
+use Rattle.std.specs.Prelude.{◌≡◌, ℕ, ◌+◌, ◌*◌, Bool, true, cond, not, ◌&&◌, List, [], ◌∷◌, ◌==◌, nat_eq, nat_lt}
 use Rattle.table.specs.State.{is_running, is_dealt}
 use Rattle.table.specs.Rules.{some}
 use Rattle.table.specs.declared.record.DrawRecord.{DrawRecord}
@@ -37,6 +37,12 @@ moves_of d = 1 + d.shares + cond (is_running d.end) 0 (cond (is_dealt d.end) 0 1
 abbrev pub draw_moves : List DrawRecord → ℕ
 draw_moves [] = 0
 draw_moves (d ∷ ds) = moves_of d + draw_moves ds
+
+-- what a draw may become by one move more: its place stays
+pub record Continues (seats : ℕ) (before after : DrawRecord) : Type 0 where
+  pub place : after.place ≡ before.place
+  pub fair : fair_end after.end seats after.shares after.shown ≡ true
+  pub more : moves_of after ≡ moves_of before + 1
 
 -- as many moves as a hand can have
 abbrev pub most_moves : ℕ → ℕ → ℕ

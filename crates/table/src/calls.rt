@@ -1,8 +1,10 @@
 // The calls on a table, each in its phase.
-ghost use Rattle.std.specs.Prelude.{◌≡◌, ◌+◌, ◌<◌, true, if◌then◌else◌, vec_len, nat_eq};
-ghost use Rattle.table.specs.State.{draw_at, with_draw, lock, draw, share, abandon, close, show, disclose};
+ghost use Rattle.std.specs.Prelude.{◌≡◌, ◌<◌, true, vec_len};
+ghost use Rattle.std.specs.Fn.{FnOnceTakesAtMut, FnOnceReturnsAtMut};
+ghost use Rattle.table.specs.declared.record.DrawRecord.{DrawRecord};
+ghost use Rattle.table.specs.State.{draw_at, with_draw, shared_by, lock, draw, share, abandon, close, show, disclose};
 ghost use Rattle.table.specs.Rules.{entry_number, after, closable, with_seat, lock_rules, disclose_rules, draw_rules, share_rules, abandon_rules, close_rules, show_rules};
-ghost use Rattle.table.specs.Sound.{fair_end, moves_of};
+ghost use Rattle.table.specs.Sound.{Continues};
 ghost use Rattle.table.specs.Model.{state_of};
 ghost use Rattle.table.specs.declared.record.Phase.TheVariants.{Locking, Dealing};
 
@@ -27,18 +29,22 @@ impl Table {
         self.held.moves.len() - closes
     }
 
-    // Changes the record of one draw and no other, and notes the move. Answers the entry's number.
-    fn change_draw(&mut self, number: usize, changed: DrawRecord, event: Event) -> usize
+    // Lends the record of one draw, and no other, to be changed, and notes the move. Answers the
+    // entry's number.
+    fn change_draw<F: FnOnce(&mut DrawRecord)>(
+        &mut self,
+        number: usize,
+        event: Event,
+        change: F,
+    ) -> usize
         requires within { number < vec_len self.old.held.draws }
-        requires place { changed.place ≡ (draw_at (state_of self.old) number).place }
-        requires fair { fair_end changed.end self.old.held.seats changed.shares changed.shown ≡ true }
-        requires more { moves_of changed ≡ moves_of (draw_at (state_of self.old) number) + 1 }
+        requires callable { FnOnceTakesAtMut F.FnOnce change (draw_at (state_of self.old) number) }
+        requires fits { (changed : DrawRecord) → FnOnceReturnsAtMut F.FnOnce change (draw_at (state_of self.old) number) tt changed → Continues self.old.held.seats (draw_at (state_of self.old) number) changed }
         ensures entry { result ≡ entry_number (state_of self.old) }
-        ensures made { state_of self.new ≡ with_draw (state_of self.old) number changed event }
+        ensures made { (changed : DrawRecord) × FnOnceReturnsAtMut F.FnOnce change (draw_at (state_of self.old) number) tt changed × (state_of self.new ≡ with_draw (state_of self.old) number changed event) }
     {
         let entry = self.entry_number();
-        let draw = &mut self.held.draws[number];
-        *draw = changed;
+        change(&mut self.held.draws[number]);
         self.held.moves.push_reserved(event);
         entry
     }
@@ -51,9 +57,7 @@ impl Table {
             return Err(TableFault::NoDrawRunning);
         };
         let number = usize::from(running);
-        let mut draw = self.held.draws[number];
-        draw.abandon();
-        Ok(self.change_draw(number, draw, Event::Abandon))
+        Ok(self.change_draw(number, Event::Abandon, DrawRecord::abandon))
     }
 
     pub(crate) fn enter_share<C: Cipher>(
@@ -72,7 +76,7 @@ impl Table {
             return Err(TableFault::NoSeat(seat));
         }
         let number = usize::from(running);
-        let mut draw = self.held.draws[number];
+        let draw = &self.held.draws[number];
         if seat == draw.seat {
             return Err(TableFault::OwnShare(seat));
         }
@@ -83,8 +87,16 @@ impl Table {
             let fault = CipherFault::NotValue { place: 0, value };
             return Err(TableFault::Cipher { seat, fault });
         }
-        draw.add_share(self.held.seats, seat, value);
-        Ok(self.change_draw(number, draw, Event::Share { seat, value }))
+        let seats = self.held.seats;
+        let share = Event::Share { seat, value };
+        let add = |draw: &mut DrawRecord|
+            requires seated { seat < 8 }
+            requires shares { draw.old.shares < 8 }
+            ensures { draw.new ≡ shared_by seats seat value draw.old }
+        {
+            draw.add_share(seats, seat, value);
+        };
+        Ok(self.change_draw(number, share, add))
     }
 
     pub(crate) fn enter_show(&mut self, draw: u8, card: u8) -> Result<usize, TableFault>
@@ -95,18 +107,17 @@ impl Table {
         if number >= self.held.draws.len() {
             return Err(TableFault::NotDealt(draw));
         }
-        let mut changed = self.held.draws[number];
-        let End::Dealt = changed.end else {
+        let drawn = &self.held.draws[number];
+        let End::Dealt = drawn.end else {
             return Err(TableFault::NotDealt(draw));
         };
-        if changed.shown {
+        if drawn.shown {
             return Err(TableFault::AlreadyShown(draw));
         }
         if card >= self.held.cards {
             return Err(TableFault::NoCard(card));
         }
-        changed.reveal();
-        Ok(self.change_draw(number, changed, Event::Show { draw, card }))
+        Ok(self.change_draw(number, Event::Show { draw, card }, DrawRecord::reveal))
     }
 
     pub(crate) fn enter_draw(&mut self, seat: u8, place: u8) -> Result<usize, TableFault>

@@ -7,7 +7,8 @@ use crate::record::{DrawRecord, End};
 impl DrawRecord {
     // One share more: share number S - 1 makes the draw dealt.
     pub(crate) fn add_share(&mut self, seats: u8, seat: u8, value: u32)
-        requires { (seat < 8) × (self.old.shares < 8) }
+        requires seated { seat < 8 }
+        requires shares { self.old.shares < 8 }
         ensures { self.new ≡ shared_by seats seat value self.old }
     {
         self.shared[usize::from(seat)] = true;

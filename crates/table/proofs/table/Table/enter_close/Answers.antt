@@ -1,5 +1,5 @@
-use Rattle.table.proofs.Soundness.{sound_table, room_to_close}
+use Rattle.table.proofs.Soundness.{room_to_close}
 use Rattle.table.proofs.table.Table.enter_close.Goals as goal
 
 pub push_reserved-requires : goal.push_reserved-requires
-push_reserved-requires c = room_to_close c.args.self.now.held (sound_table c.args.self.now) c.requires
+push_reserved-requires c = room_to_close c.args.self.now c.requires

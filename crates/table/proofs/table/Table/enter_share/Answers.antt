@@ -1,33 +1,18 @@
-use Rattle.std.proofs.Common.{◌≡◌, ◌+◌, ◌<◌, true, vec_len, sym, ap, ◌∙◌, subst, arith}
-use Rattle.table.specs.Sound.{fair_end, moves_of}
-use Rattle.table.proofs.Soundness.{sound_table, is_draw, draw_fair, draw_runs}
-use Rattle.table.proofs.Running.{shares_below, shared_fair, shared_moves}
+use Rattle.std.proofs.Common.{sym, ap, ◌∙◌, subst, arith}
+use Rattle.table.specs.State.{draw_at, shared_by}
+use Rattle.table.specs.Model.{state_of}
+use Rattle.table.specs.Sound.{Continues}
+use Rattle.table.proofs.Soundness.{shares_few, shared_continues}
 use Rattle.table.proofs.table.Table.enter_share.Goals as goal
 
-pub add_share-requires : goal.add_share-requires
-add_share-requires g c =
-    let t = c.args.self.now in
-    let d = c.index.result.now in
-    let i = c.from-number.result in
-    let found = c.in-Some.ensures in
-    let below : i < vec_len t.held.draws = omega (arith, c.from-number.ensures, found.within, t.held.draws.ok.0) in
-    let fair = draw_fair t i d below c.index.ensures in
-    let runs = draw_runs t i d below c.index.ensures c.in-Some.running found c.from-number.ensures in
-    (omega (arith, c.if-seat-self.false, (sound_table t).seats_most), omega (arith, shares_below t.held.seats d fair runs, (sound_table t).seats_most))
+pub change_draw-requires-clause-callable : goal.change_draw-requires-clause-callable
+change_draw-requires-clause-callable g c = λ p e.
+    let few = shares_few c.args.self.now c.from-number.result _ c.in-Some.ensures c.from-number.ensures in
+    (omega (arith, c.if-seat-self.false, c.args.self.now.seats_most), omega (arith, few, ap (λ d. d.shares) e))
 
-pub change_draw-requires : goal.change_draw-requires
-change_draw-requires g c =
+pub change_draw-requires-clause-fits : goal.change_draw-requires-clause-fits
+change_draw-requires-clause-fits g c = λ changed e.
     let t = c.args.self.now in
-    let d = c.index.result.now in
     let i = c.from-number.result in
-    let found = c.in-Some.ensures in
-    let below : i < vec_len t.held.draws = omega (arith, c.from-number.ensures, found.within, t.held.draws.ok.0) in
-    let is = is_draw t i d below c.index.ensures in
-    let fair = draw_fair t i d below c.index.ensures in
-    let runs = draw_runs t i d below c.index.ensures c.in-Some.running found c.from-number.ensures in
-    record {
-      within = below;
-      place = ap (λ e. e.place) c.add_share.ensures ∙ ap (λ e. e.place) is;
-      fair = subst (λ e. fair_end e.end t.held.seats e.shares e.shown ≡ true) (sym c.add_share.ensures) (shared_fair t.held.seats d fair runs c.args.seat c.args.value);
-      more = ap moves_of c.add_share.ensures ∙ shared_moves t.held.seats d fair runs c.args.seat c.args.value ∙ ap (λ e. moves_of e + 1) is;
-    }
+    subst (Continues t.held.seats (draw_at (state_of t) i)) (sym (ap (shared_by t.held.seats c.args.seat c.args.value) e.shows) ∙ sym e.met ∙ e.leaves)
+    (shared_continues t i _ c.in-Some.ensures c.from-number.ensures c.args.seat c.args.value)

@@ -1,6 +1,6 @@
 use Rattle.std.proofs.Common.{arith}
-use Rattle.table.proofs.Soundness.{sound_table, draws_count}
+use Rattle.table.proofs.Soundness.{draws_count}
 use Rattle.table.proofs.table.Table.running.Goals as goal
 
 pub overflow_cast-len : goal.overflow_cast-len
-overflow_cast-len c = omega (arith, c.len.ensures, draws_count c.args.self.now.held (sound_table c.args.self.now))
+overflow_cast-len c = omega (arith, c.len.ensures, draws_count c.args.self.now)
