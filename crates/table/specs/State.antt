@@ -8,7 +8,7 @@ use Rattle.table.specs.declared.record.Event.TheVariants as event
 use Rattle.table.specs.declared.record.End.{End}
 use Rattle.table.specs.declared.record.End.TheVariants.{Running, Dealt, Abandoned}
 use Rattle.table.specs.declared.record.Phase.{Phase}
-use Rattle.table.specs.declared.record.Phase.TheVariants.{Locking, Dealing, Showdown, Audit}
+use Rattle.table.specs.declared.record.Phase.TheVariants.{Locking, Dealing}
 
 pub data Move : Type 0 where
   -- seat and deck

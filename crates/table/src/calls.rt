@@ -53,9 +53,7 @@ impl Table {
         ensures answer { result ≡ abandon_rules (state_of self.old) }
         ensures made { state_of self.new ≡ after result (state_of self.old) abandon }
     {
-        let Some(running) = self.running() else {
-            return Err(TableFault::NoDrawRunning);
-        };
+        let running = self.running().ok_or(TableFault::NoDrawRunning)?;
         let number = usize::from(running);
         Ok(self.change_draw(number, Event::Abandon, DrawRecord::abandon))
     }
@@ -69,9 +67,7 @@ impl Table {
         ensures answer { result ≡ share_rules (state_of self.old) (C.Cipher.meaning cipher.now) seat value }
         ensures made { state_of self.new ≡ after result (state_of self.old) (share seat value) }
     {
-        let Some(running) = self.running() else {
-            return Err(TableFault::NoDrawRunning);
-        };
+        let running = self.running().ok_or(TableFault::NoDrawRunning)?;
         if seat >= self.held.seats {
             return Err(TableFault::NoSeat(seat));
         }
@@ -104,10 +100,11 @@ impl Table {
         ensures made { state_of self.new ≡ after result (state_of self.old) (show draw card) }
     {
         let number = usize::from(draw);
-        if number >= self.held.draws.len() {
-            return Err(TableFault::NotDealt(draw));
-        }
-        let drawn = &self.held.draws[number];
+        let drawn = self
+            .held
+            .draws
+            .get(number)
+            .ok_or(TableFault::NotDealt(draw))?;
         let End::Dealt = drawn.end else {
             return Err(TableFault::NotDealt(draw));
         };

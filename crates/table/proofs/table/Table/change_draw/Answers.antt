@@ -31,8 +31,7 @@ invariant_of-self-clause-moves_long g c =
 
 pub returns-clause-made : goal.returns-clause-made
 returns-clause-made g c =
-    let is = is_draw c.args.self.now c.args.number c.requires.within c.index_mut.result.now c.index_mut.ensures.value in
-    (
+    let is = is_draw c.args.self.now c.args.number c.requires.within c.index_mut.result.now c.index_mut.ensures.value in (
       c.change.new.arg2,
       record { shown = c.index_mut.result; shows = is; left = _; met = c.change.ensures; leaves = refl },
       rw c.push_reserved.ensures.items refl,
