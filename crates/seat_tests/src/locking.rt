@@ -128,9 +128,15 @@ fn unlocks_refused(rt: HostRuntime) -> Result<(), Fail> {
 
 #[test]
 fn refusals_as_told(rt: HostRuntime) -> Result<(), Fail> {
-    assert_eq!(rt; Refusal::from(SeatFault::WrongLength(53)), Refusal::with(4, 53));
+    assert_eq!(rt;
+        Refusal::from(SeatFault::WrongLength(53)),
+        Refusal::with(4, 53)
+    );
     assert_eq!(rt; Refusal::from(SeatFault::NotOrder), Refusal::alone(17));
-    assert_eq!(rt; Refusal::from(SeatFault::UnfitGenerator), Refusal::with(20, 0));
+    assert_eq!(rt;
+        Refusal::from(SeatFault::UnfitGenerator),
+        Refusal::with(20, 0)
+    );
     assert_eq!(rt; Refusal::from(not_value(2, 9)), Refusal::with_both(5, 2, 9));
     assert_eq!(rt;
         Refusal::from(SeatFault::Cipher(CipherFault::UnlawfulKey(7))),

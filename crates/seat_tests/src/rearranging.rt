@@ -123,7 +123,10 @@ fn blank_places(rt: HostRuntime) -> Result<(), Fail> {
 
 #[test]
 fn refusals_as_told(rt: HostRuntime) -> Result<(), Fail> {
-    assert_eq!(rt; Refusal::from(OrderFault::WrongLength(53)), Refusal::with(4, 53));
+    assert_eq!(rt;
+        Refusal::from(OrderFault::WrongLength(53)),
+        Refusal::with(4, 53)
+    );
     assert_eq!(rt; Refusal::from(OrderFault::NotOrder), Refusal::alone(17));
     Ok(())
 }

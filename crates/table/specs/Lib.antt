@@ -7,3 +7,4 @@ pub mod ViewRules
 pub mod Sound
 pub mod Model
 pub mod Calls
+pub mod Printed
