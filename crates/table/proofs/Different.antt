@@ -4,13 +4,13 @@ use lib.ListN.{length-map}
 use Rattle.std.proofs.lemmas.Bool.{and_parts, and_from, not-true, not_from_false, ltb-true, lt-ltb, eqb-false, ne_eqb, or_parts, or_from}
 use Rattle.permutation.specs.Permutation.{Within}
 use Rattle.permutation.proofs.Counting.{Different, pigeonhole}
-use Rattle.table.specs.Rules.{some}
+use Rattle.std.specs.List.{list_any}
 use Rattle.table.specs.Sound.{different}
 
 module _ {A : Type 0} (number : A → ℕ) (limit : ℕ) where
   -- some of xs has the number n
   abbrev held : List A → ℕ → Bool
-  held xs n = some (λ y. eqb (number y) n) xs
+  held xs n = list_any (λ y. eqb (number y) n) xs
 
   record First (x : A) (xs : List A) : Type 0 where
     below : number x < limit

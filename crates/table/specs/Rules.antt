@@ -34,16 +34,12 @@ abbrev pub with_seat : ℕ → Result (Unit {0}) CipherFault → Result (Unit {0
 with_seat seat (Ok tt) = Ok tt
 with_seat seat (Err fault) = Err (record { seat = seat; fault = fault })
 
--- some element passes the test
-abbrev pub some : {A : Type 0} → (A → Bool) → List A → Bool
-some test xs = list_any test xs
-
 -- a draw, running or ended, took the place
 abbrev pub taken : List DrawRecord → ℕ → Bool
-taken draws p = some (λ d. nat_eq d.place p) draws
+taken draws p = list_any (λ d. nat_eq d.place p) draws
 
 abbrev pub has_disclosed : List Disclosure → ℕ → Bool
-has_disclosed disclosures s = some (λ d. nat_eq d.seat s) disclosures
+has_disclosed disclosures s = list_any (λ d. nat_eq d.seat s) disclosures
 
 -- how many closes there were
 abbrev pub closes : Phase → ℕ
