@@ -17,54 +17,40 @@ pub const SECOND: [u32; 3] = [143542612, 2007237709, 1505795335];
 pub const CIPHER: PowerCipher<PrimeField> = PowerCipher { field: PrimeField };
 
 // A call was accepted, and answered the number given.
-pub fn accepted(
-    rt: &impl Abort,
-    answer: Result<usize, TableFault>,
-    number: usize,
-) -> Result<(), Fail> {
-    assert_eq!(rt; answer?, number);
-    Ok(())
+pub fn accepted(rt: &impl Abort, answer: Result<usize, TableFault>, number: usize) {
+    assert_eq!(rt; answer, Ok(number));
 }
 
 // A call was refused, by the number and with the values given.
-pub fn refused(
-    rt: &impl Abort,
-    answer: Result<usize, TableFault>,
-    refusal: Refusal,
-) -> Result<(), Fail> {
-    match answer {
-        Ok(_) => Err(Fail::new("accepted")),
-        Err(fault) => {
-            assert_eq!(rt; Refusal::from(fault), refusal);
-            Ok(())
-        },
-    }
+pub fn refused(rt: &impl Abort, answer: Result<usize, TableFault>, refusal: Refusal) {
+    assert_eq!(rt; answer.map_err(Refusal::from), Err(refusal));
 }
 
 pub fn locked(rt: &impl Abort, heap: Global) -> Result<Table, Fail> {
     let mut table = Table::start(heap, 2, 3)?;
-    accepted(rt, table.lock(&CIPHER, 0, &FIRST), 0)?;
-    accepted(rt, table.lock(&CIPHER, 1, &SECOND), 1)?;
+    accepted(rt, table.lock(&CIPHER, 0, &FIRST), 0);
+    accepted(rt, table.lock(&CIPHER, 1, &SECOND), 1);
     Ok(table)
 }
 
 // Both draws are dealt, and the showdown is open.
 pub fn dealt(rt: &impl Abort, heap: Global) -> Result<Table, Fail> {
     let mut table = locked(rt, heap)?;
-    accepted(rt, table.draw(1, 1), 2)?;
-    accepted(rt, table.share(&CIPHER, 0, 282475249), 3)?;
-    accepted(rt, table.draw(0, 0), 4)?;
-    accepted(rt, table.share(&CIPHER, 1, 984943658), 5)?;
-    accepted(rt, table.close(), 2)?;
+    accepted(rt, table.draw(1, 1), 2);
+    accepted(rt, table.share(&CIPHER, 0, 282475249), 3);
+    accepted(rt, table.draw(0, 0), 4);
+    accepted(rt, table.share(&CIPHER, 1, 984943658), 5);
+    accepted(rt, table.close(), 2);
     Ok(table)
 }
 
 #[test]
 fn whole_hand(rt: HostRuntime) -> Result<(), Fail> {
     let mut table = dealt(&rt, rt.alloc())?;
-    accepted(&rt, table.show(0, 0), 6)?;
-    accepted(&rt, table.show(1, 1), 7)?;
-    accepted(&rt, table.close(), 3)?;
-    accepted(&rt, table.disclose(&CIPHER, 1, 5, &[0, 2, 1]), 8)?;
-    accepted(&rt, table.disclose(&CIPHER, 0, 5, &[1, 2, 0]), 9)
+    accepted(&rt, table.show(0, 0), 6);
+    accepted(&rt, table.show(1, 1), 7);
+    accepted(&rt, table.close(), 3);
+    accepted(&rt, table.disclose(&CIPHER, 1, 5, &[0, 2, 1]), 8);
+    accepted(&rt, table.disclose(&CIPHER, 0, 5, &[1, 2, 0]), 9);
+    Ok(())
 }
