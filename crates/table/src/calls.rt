@@ -137,15 +137,9 @@ impl Table {
         let entry = self.entry_number();
         let last_deck = usize::from(self.held.seats - 1) * usize::from(self.held.cards);
         let value = self.held.decks[last_deck + usize::from(place)];
-        self.held.draws.push_reserved(DrawRecord {
-            seat,
-            place,
-            shared: [false; 8],
-            shares: 0,
-            value,
-            end: End::Running,
-            shown: false,
-        });
+        self.held
+            .draws
+            .push_reserved(DrawRecord::begin(seat, place, value));
         self.held.moves.push_reserved(Event::Draw { seat, place });
         Ok(entry)
     }

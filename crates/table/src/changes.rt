@@ -1,10 +1,25 @@
-// What a move makes of the draw that is lent to it.
+// How a draw begins, and what a move makes of one that is lent to it.
 ghost use Rattle.std.specs.Prelude.{◌≡◌, ◌<◌};
-ghost use Rattle.table.specs.State.{shared_by, abandoned, revealed};
+ghost use Rattle.table.specs.State.{begun, shared_by, abandoned, revealed};
 
 use crate::record::{DrawRecord, End};
 
 impl DrawRecord {
+    // A draw of a place that holds the value.
+    pub(crate) fn begin(seat: u8, place: u8, value: u32) -> DrawRecord
+        ensures { result ≡ begun seat place value }
+    {
+        DrawRecord {
+            seat,
+            place,
+            shared: [false; 8],
+            shares: 0,
+            value,
+            end: End::Running,
+            shown: false,
+        }
+    }
+
     // One share more: share number S - 1 makes the draw dealt.
     pub(crate) fn add_share(&mut self, seats: u8, seat: u8, value: u32)
         requires seated { seat < 8 }
