@@ -1,5 +1,3 @@
-pub mod Searching
 pub mod Soundness
 pub mod Different
 pub mod Draws
-pub mod Running

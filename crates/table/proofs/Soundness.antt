@@ -1,8 +1,8 @@
 -- What a table keeps as moves are made, and that there is room for them.
-use Rattle.std.proofs.Common.{◌≡◌, ℕ, ◌+◌, ◌<◌, ◌≤◌, Bool, true, false, cond, eqb, ltb, List, [], ◌∷◌, ◌++◌, length, get_or, set, vec_items, vec_len, vec_capacity, sym, refl, ap, ◌∙◌, subst, inl, inr, mul-le-mul_right, suc-mul, arith}
-use Rattle.std.proofs.lemmas.Bool.{ltb-true, lt-ltb, eqb-true, eqb-false, eq-eqb, false≢true, and_from, cases_Bool}
+use Rattle.std.proofs.Common.{◌≡◌, ℕ, ◌+◌, ◌<◌, ◌≤◌, true, false, ltb, List, [], ◌∷◌, ◌++◌, length, get_or, set, vec_items, vec_len, vec_capacity, refl, ap, ◌∙◌, subst, mul-le-mul_right, suc-mul, arith}
+use Rattle.std.proofs.lemmas.Bool.{ltb-true, lt-ltb, eqb-true, eq-eqb, false≢true, and_from}
 use Rattle.std.proofs.lemmas.List.{get_or_default, length_push}
-use Rattle.table.specs.State.{no_draw, draw_at, is_running, is_dealt, Runs, shared_by, abandoned, revealed, phase_after}
+use Rattle.table.specs.State.{no_draw, draw_at, phase_after}
 use Rattle.table.specs.Model.{state_of}
 use Rattle.table.specs.Rules.{closes, closable, taken, has_disclosed}
 use Rattle.table.specs.Sound.{in_step, fair_end, fair, different, moves_of, draw_moves, most_moves, Continues}
@@ -12,8 +12,7 @@ use Rattle.table.specs.declared.record.Disclosure.{Disclosure}
 use Rattle.table.specs.declared.record.End.TheVariants.{Running}
 use Rattle.table.specs.declared.record.Phase.{Phase}
 use Rattle.table.specs.declared.record.Phase.TheVariants.{Locking, Dealing, Showdown, Audit}
-use Rattle.table.proofs.Draws.{moves_bounded, fair_at, fair_changed, fair_added, moves_changed, moves_added}
-use Rattle.table.proofs.Running.{shares_below, abandoned_fair, abandoned_moves, shared_fair, shared_moves, revealed_fair, revealed_moves}
+use Rattle.table.proofs.Draws.{moves_bounded, fair_changed, fair_added, moves_changed, moves_added}
 use Rattle.table.proofs.Different.{different_changed, different_added, different_few}
 
 seats_locked : (phase : Phase) (locked seats : ℕ) → in_step phase locked seats ≡ true → locked ≤ seats
@@ -74,38 +73,6 @@ module _ (t : Table) (i : ℕ) (within : i < vec_len t.held.draws) where
   -- a draw that is read from a table
   pub is_draw : (d : DrawRecord) → d ≡ get_or (vec_items t.held.draws) i d → d ≡ draw_at (state_of t) i
   is_draw d read = read ∙ get_or_default (vec_items t.held.draws) i d no_draw (omega (arith, t.held.draws.ok.0))
-
-  draw_fair : let d = draw_at (state_of t) i in fair_end d.end t.held.seats d.shares d.shown ≡ true
-  draw_fair = fair_at t.held.seats (vec_items t.held.draws) i t.draws_fair (omega (arith, t.held.draws.ok.0))
-
-  pub revealed_continues : is_dealt (draw_at (state_of t) i).end ≡ true → (draw_at (state_of t) i).shown ≡ false
-      → Continues t.held.seats (draw_at (state_of t) i) (revealed (draw_at (state_of t) i))
-  revealed_continues dealt hidden =
-      let d = draw_at (state_of t) i in
-      record { place = refl; fair = revealed_fair t.held.seats d draw_fair dealt hidden; more = revealed_moves t.held.seats d draw_fair dealt hidden }
-
--- the draw that runs
-module _ (t : Table) (i j : ℕ) (found : Runs (state_of t) j) (same : i ≡ j) where
-  pub within_draws : i < vec_len t.held.draws
-  within_draws = omega (arith, same, found.within, t.held.draws.ok.0)
-
-  runs : is_running (draw_at (state_of t) i).end ≡ true
-  runs = ap (λ (n : ℕ). is_running (draw_at (state_of t) n).end) (same ∙ found.last) ∙ found.runs
-
-  pub shares_few : (draw_at (state_of t) i).shares < 8
-  shares_few = omega (arith, t.seats_most, shares_below t.held.seats (draw_at (state_of t) i) (draw_fair t i within_draws) runs)
-
-  pub abandoned_continues : Continues t.held.seats (draw_at (state_of t) i) (abandoned (draw_at (state_of t) i))
-  abandoned_continues =
-      let d = draw_at (state_of t) i in
-      let fair_before = draw_fair t i within_draws in
-      record { place = refl; fair = abandoned_fair t.held.seats d fair_before runs; more = abandoned_moves t.held.seats d fair_before runs }
-
-  pub shared_continues : (seat value : ℕ) → Continues t.held.seats (draw_at (state_of t) i) (shared_by t.held.seats seat value (draw_at (state_of t) i))
-  shared_continues seat value =
-      let d = draw_at (state_of t) i in
-      let fair_before = draw_fair t i within_draws in
-      record { place = refl; fair = shared_fair t.held.seats d fair_before runs seat value; more = shared_moves t.held.seats d fair_before runs seat value }
 
 -- a table with one draw more
 module _ (t : Table) (d : DrawRecord) (below : d.place < t.held.cards) (free : taken (vec_items t.held.draws) d.place ≡ false)
@@ -191,16 +158,6 @@ module _ (t : Table) (locking : t.held.phase ≡ Locking) where
   pub unlocked : t.held.locked < t.held.seats
   unlocked = ltb-true t.held.locked t.held.seats (subst (λ (p : Phase). in_step p t.held.locked t.held.seats ≡ true) locking t.step)
 
-  -- the last lock ends the phase
-  pub lock_step : in_step (cond (eqb (t.held.locked + 1) t.held.seats) Dealing Locking) (t.held.locked + 1) t.held.seats ≡ true
-  lock_step =
-      elim (cases_Bool (eqb (t.held.locked + 1) t.held.seats)) [
-        | inl last ↦ subst (λ (b : Bool). in_step (cond b Dealing Locking) (t.held.locked + 1) t.held.seats ≡ true) (sym last) last
-        | inr more ↦
-            subst (λ (b : Bool). in_step (cond b Dealing Locking) (t.held.locked + 1) t.held.seats ≡ true) (sym more)
-            (lt-ltb (t.held.locked + 1) t.held.seats (omega (arith, unlocked, eqb-false (t.held.locked + 1) t.held.seats more)))
-      ]
-
   pub room_to_lock : vec_len t.held.moves < vec_capacity t.held.moves
   room_to_lock =
       omega (
@@ -211,11 +168,3 @@ module _ (t : Table) (locking : t.held.phase ≡ Locking) where
         unlocked,
         moves_fit t.held.seats t.held.cards t.held.seats (vec_len t.held.disclosures) (vec_items t.held.draws) Dealing t.seats_least (eq-eqb t.held.seats t.held.seats refl) (disclosures_few t) t.draws_fair (draws_few t),
       )
-
-  pub room_for_deck : vec_len t.held.decks + t.held.cards ≤ vec_capacity t.held.decks
-  room_for_deck = omega (arith, t.decks_long, t.decks_room, suc-mul t.held.locked t.held.cards, mul-le-mul_right t.held.cards unlocked)
-
--- neither phase of the locks has closes before it
-pub lock_closes : (b : Bool) → closes (cond b Dealing Locking) ≡ 0
-lock_closes true = refl
-lock_closes false = refl
