@@ -66,7 +66,7 @@ impl DealtCard {
         writeln!(f, "  Seat 1 locks that under key {second}: {twice}.")
     }
 
-    // That the order of the locks is one, and how the first comes off.
+    // That the locks may come on in either order, and how that of seat 0 comes off.
     #[tactic(auto, unfolding(crate::specs::Printed::printed_sharing))]
     fn write_sharing<W: fmt::Write>(&self, f: &mut fmt::Formatter<W>) -> fmt::Result
         ensures { WritesOnOk W.write_str_gives f.old result (printed_sharing self.now) f.new }
@@ -81,7 +81,7 @@ impl DealtCard {
         writeln!(f, "  Seat 0 shares, its own lock taken off: {share}.")
     }
 
-    // How the second comes off, and the card that is read.
+    // How that of seat 1 comes off, and the card that is read.
     #[tactic(auto, unfolding(crate::specs::Printed::printed_opening))]
     fn write_opening<W: fmt::Write>(&self, f: &mut fmt::Formatter<W>) -> fmt::Result
         ensures { WritesOnOk W.write_str_gives f.old result (printed_opening self.now) f.new }
