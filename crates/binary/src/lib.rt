@@ -29,8 +29,9 @@ impl Field for BinaryField {
         remainder(product(a, b))
     }
 
+    // As many as there are numbers other than 0.
     fn order(&self) -> u32 {
-        2_147_483_647
+        self.last()
     }
 
     // The polynomial x.
@@ -47,11 +48,9 @@ impl Field for BinaryField {
 fn product(a: u32, b: u32) -> u64
     ensures { result ≡ carryless a b }
 {
-    let mut sum = 0u64;
-    for i in 0..32u32 {
-        sum ^= u64::from(a & (1 << i)) * u64::from(b);
-    }
-    sum
+    (0..32u32)
+        .map(|i| u64::from(a & (1 << i)) * u64::from(b))
+        .fold(0, |sum, part| sum ^ part)
 }
 
 // Of 64 bits the first fold leaves 36, the second 31.

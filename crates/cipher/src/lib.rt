@@ -49,14 +49,7 @@ pub trait Cipher {
 pub fn read_card<C: Cipher>(cipher: &C, value: u32) -> Option<u8>
     ensures { Reads (C.meaning cipher.now) value result }
 {
-    for card in 0..CARDS {
-        if let Ok(code) = cipher.code(card) {
-            if code == value {
-                return Some(card);
-            }
-        }
-    }
-    None
+    (0..CARDS).find(|card| cipher.code(*card) == Ok(value))
 }
 
 // Refuses a deck that holds a number which is no value, by the lowest place of such a one.

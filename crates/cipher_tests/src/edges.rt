@@ -10,31 +10,18 @@ use std::process::Abort;
 
 // Of a field with the given last number and order.
 fn check_edges<F: Field>(rt: &impl Abort, cipher: &PowerCipher<F>, last: u32, order: u32) {
-    assert_eq!(rt;
-        cipher.lock(1, 0),
-        Err(CipherFault::NotValue { place: 0, value: 0 })
-    );
     assert_eq!(rt; cipher.lock(1, last), Ok(last));
-    let past = last.wrapping_add(1);
-    assert_eq!(rt;
-        cipher.lock(1, past),
-        Err(CipherFault::NotValue {
-            place: 0,
-            value: past,
-        })
-    );
-    assert_eq!(rt;
-        cipher.lock(1, u32::MAX),
-        Err(CipherFault::NotValue {
-            place: 0,
-            value: u32::MAX,
-        })
-    );
     assert!(rt; cipher.is_value(1) && cipher.is_value(last));
-    assert!(rt; !cipher.is_value(0) && !cipher.is_value(past) && !cipher.is_value(u32::MAX));
+    for value in [0, last.wrapping_add(1), u32::MAX] {
+        let refused = CipherFault::NotValue { place: 0, value };
+        assert_eq!(rt; cipher.lock(1, value), Err(refused));
+        assert!(rt; !cipher.is_value(value));
+    }
     let most = order.wrapping_sub(1);
     assert!(rt; cipher.is_lawful(1) && cipher.is_lawful(most));
-    assert!(rt; !cipher.is_lawful(0) && !cipher.is_lawful(order) && !cipher.is_lawful(u32::MAX));
+    for key in [0, order, u32::MAX] {
+        assert!(rt; !cipher.is_lawful(key));
+    }
     assert_eq!(rt; cipher.last_key(), most);
     assert_eq!(rt; cipher.undo_key(1), Ok(1));
     assert_eq!(rt; cipher.undo_key(most), Ok(most));
@@ -69,31 +56,14 @@ fn binary_edges(rt: HostRuntime) {
 
 #[test]
 fn refusals_as_told(rt: HostRuntime) {
-    let value = Refusal::from(CipherFault::NotValue { place: 0, value: 9 });
+    let value = CipherFault::NotValue { place: 0, value: 9 };
+    assert_eq!(rt; Refusal::from(value), Refusal::with_both(5, 0, 9));
     assert_eq!(rt;
-        value,
-        Refusal {
-            number: 5,
-            first: Some(0),
-            second: Some(9),
-        }
+        Refusal::from(CipherFault::NoCard(52)),
+        Refusal::with(14, 52)
     );
-    let card = Refusal::from(CipherFault::NoCard(52));
     assert_eq!(rt;
-        card,
-        Refusal {
-            number: 14,
-            first: Some(52),
-            second: None,
-        }
-    );
-    let key = Refusal::from(CipherFault::UnlawfulKey(7));
-    assert_eq!(rt;
-        key,
-        Refusal {
-            number: 16,
-            first: Some(7),
-            second: None,
-        }
+        Refusal::from(CipherFault::UnlawfulKey(7)),
+        Refusal::with(16, 7)
     );
 }

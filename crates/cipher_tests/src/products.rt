@@ -4,6 +4,7 @@ use cipher::Cipher;
 use field::Field;
 use power::power_cipher::PowerCipher;
 use prime::PrimeField;
+use std::process::Abort;
 use std::test::Fail;
 
 const SAMPLES: [u32; 12] = [
@@ -27,68 +28,67 @@ fn slow_binary(a: u32, b: u32) -> u32 {
     let reduced = if b >> 31 == 1 { b ^ 0x8000_0009 } else { b };
     let mut sum = 0u32;
     for i in (0..32u32).rev() {
-        sum = sum << 1;
+        sum <<= 1;
         if sum >> 31 == 1 {
-            sum = sum ^ 0x8000_0009;
+            sum ^= 0x8000_0009;
         }
         if (a >> i) & 1 == 1 {
-            sum = sum ^ reduced;
+            sum ^= reduced;
         }
     }
     sum
 }
 
 fn slow_power<F: Field>(field: &F, x: u32, k: u32) -> u32 {
-    let mut product = 1;
-    for _ in 0..k {
-        product = field.times(product, x);
+    (0..k).fold(1, |product, _| field.times(product, x))
+}
+
+fn check_products<F: Field, S: Fn(u32, u32) -> u32>(rt: &impl Abort, field: &F, slow: S)
+    requires { S.IsAlwaysCallable slow }
+{
+    for a in SAMPLES {
+        for b in SAMPLES {
+            assert_eq!(rt; field.times(a, b), slow(a, b));
+        }
     }
-    product
+}
+
+fn check_powers<F: Field>(rt: &impl Abort, cipher: &PowerCipher<F>) -> Result<(), Fail> {
+    for key in [1, 5, 13, 1009, 65537] {
+        assert_eq!(rt;
+            cipher.lock(key, 1234567890)?,
+            slow_power(&cipher.field, 1234567890, key)
+        );
+    }
+    Ok(())
+}
+
+fn check_codes<F: Field>(rt: &impl Abort, cipher: &PowerCipher<F>, base: u32) -> Result<(), Fail> {
+    for card in 0..52u8 {
+        let k = u32::from(card) + 1;
+        assert_eq!(rt; cipher.code(card)?, slow_power(&cipher.field, base, k));
+    }
+    Ok(())
 }
 
 #[test]
 fn prime_products(rt: HostRuntime) {
-    for a in SAMPLES {
-        for b in SAMPLES {
-            assert_eq!(rt; PrimeField.times(a, b), slow_prime(a, b));
-        }
-    }
+    check_products(&rt, &PrimeField, slow_prime);
 }
 
 #[test]
 fn binary_products(rt: HostRuntime) {
-    for a in SAMPLES {
-        for b in SAMPLES {
-            assert_eq!(rt; BinaryField.times(a, b), slow_binary(a, b));
-        }
-    }
+    check_products(&rt, &BinaryField, slow_binary);
 }
 
 #[test]
 fn powers(rt: HostRuntime) -> Result<(), Fail> {
-    let over_prime = PowerCipher { field: PrimeField };
-    let over_binary = PowerCipher { field: BinaryField };
-    for key in [1, 5, 13, 1009, 65537] {
-        assert_eq!(rt;
-            over_prime.lock(key, 1234567890)?,
-            slow_power(&PrimeField, 1234567890, key)
-        );
-        assert_eq!(rt;
-            over_binary.lock(key, 1234567890)?,
-            slow_power(&BinaryField, 1234567890, key)
-        );
-    }
-    Ok(())
+    check_powers(&rt, &PowerCipher { field: PrimeField })?;
+    check_powers(&rt, &PowerCipher { field: BinaryField })
 }
 
 #[test]
 fn codes(rt: HostRuntime) -> Result<(), Fail> {
-    let over_prime = PowerCipher { field: PrimeField };
-    let over_binary = PowerCipher { field: BinaryField };
-    for card in 0..52u8 {
-        let k = u32::from(card).wrapping_add(1);
-        assert_eq!(rt; over_prime.code(card)?, slow_power(&PrimeField, 49, k));
-        assert_eq!(rt; over_binary.code(card)?, slow_power(&BinaryField, 2, k));
-    }
-    Ok(())
+    check_codes(&rt, &PowerCipher { field: PrimeField }, 49)?;
+    check_codes(&rt, &PowerCipher { field: BinaryField }, 2)
 }

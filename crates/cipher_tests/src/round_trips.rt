@@ -15,13 +15,10 @@ fn drawn(state: &mut u32) -> u32 {
 // A drawn key, or the nearest lawful one below it.
 fn drawn_key<C: Cipher>(cipher: &C, state: &mut u32) -> u32 {
     let start = drawn(state);
-    for step in 0..1000u32 {
-        let key = start.wrapping_sub(step);
-        if cipher.is_lawful(key) {
-            return key;
-        }
-    }
-    1
+    (0..1000u32)
+        .map(|step| start.wrapping_sub(step))
+        .find(|key| cipher.is_lawful(*key))
+        .unwrap_or(1)
 }
 
 fn check_round_trips<C: Cipher>(rt: &impl Abort, cipher: &C) -> Result<(), Fail> {

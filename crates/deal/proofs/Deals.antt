@@ -90,12 +90,13 @@ module _ (m : CipherMeaning) (laws : CipherLaws m) (c j : ℕ) where
 
             pub all_dealt : (between swapped opened : ℕ) (card : Option ℕ) → Ok between ≡ lock_answer m k code → Ok swapped ≡ lock_answer m j between
                 → Ok opened ≡ lock_answer m undo' share → Reads m opened card
-                → Ok (record { code = code; once = once; twice = twice; swapped = swapped; undo = (undo, undo'); share = share; opened = opened; card = card }) ≡ deal_answer m c j k
+                → Ok (record { keys = (j, k); code = code; once = once; twice = twice; swapped = swapped; undo = (undo, undo'); share = share; opened = opened; card = card }) ≡ deal_answer m c j k
             all_dealt between swapped opened card h h' opens reads =
                 let is_swapped = swapped_is between swapped h h' in
                 let is_opened = opened_is opened opens in
                 let is_card = card_is opened card opens reads in
                 ap Ok (λ i. record {
+                  keys = (j, k);
                   code = o.code_is i;
                   once = o.once_is i;
                   twice = twice_is i;

@@ -9,6 +9,7 @@ module _ (m : CipherMeaning) where
   -- seat 0 holds key j, seat 1 holds key k and owns the card c
   abbrev pub dealt : ℕ → ℕ → ℕ → DealtCard
   dealt c j k = record {
+    keys = (j, k);
     code = m.code c;
     once = m.lock j (m.code c);
     twice = m.lock k (m.lock j (m.code c));

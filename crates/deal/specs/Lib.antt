@@ -1,1 +1,2 @@
 pub mod Deal
+pub mod Printed

@@ -10,7 +10,7 @@ use power::power_cipher::PowerCipher;
 use prime::PrimeField;
 use refusal::Refusal;
 use std::io;
-use steps::{DealtCard, deal_card};
+use steps::deal_card;
 
 const CARD: u8 = 30;
 
@@ -33,28 +33,11 @@ fn show_deal<C: Cipher>(
 ) -> io::Result<()> {
     println!(rt; "Card {CARD} is dealt to seat 1 over the {field} field.")?;
     match deal_card(cipher, CARD, KEYS) {
-        Ok(deal) => show_steps(rt, &deal)?,
+        Ok(deal) => print!(rt; "{deal}")?,
         Err(fault) => println!(rt; "The deal is {}.", Refusal::from(fault))?,
     }
     show_lock(rt, cipher, unlawful, 9)?;
     show_lock(rt, cipher, KEYS.0, 0)
-}
-
-fn show_steps(rt: &HostRuntime, deal: &DealtCard) -> io::Result<()> {
-    println!(rt; "  The card's code is {}.", deal.code)?;
-    println!(rt; "  Seat 0 locks it under key {}: {}.", KEYS.0, deal.once)?;
-    println!(rt; "  Seat 1 locks that under key {}: {}.", KEYS.1, deal.twice)?;
-    println!(rt;
-        "  Locked by seat 1 first and then by seat 0 it is {} too.",
-        deal.swapped
-    )?;
-    println!(rt; "  The undo keys are {} and {}.", deal.undo.0, deal.undo.1)?;
-    println!(rt; "  Seat 0 shares, its own lock taken off: {}.", deal.share)?;
-    println!(rt; "  Seat 1 takes its own lock off: {}.", deal.opened)?;
-    match deal.card {
-        Some(card) => println!(rt; "  That is the code of card {card}."),
-        None => println!(rt; "  That is the code of no card."),
-    }
 }
 
 fn show_lock<C: Cipher>(rt: &HostRuntime, cipher: &C, key: u32, value: u32) -> io::Result<()> {

@@ -1,8 +1,7 @@
 -- Marks of the numbers seen so far, by which a number that comes again is found.
-use Rattle.std.proofs.Common.{◌≡◌, ℕ, zero, suc, ◌+◌, ◌<◌, ◌≤◌, Bool, true, false, cond, eqb, List, [], length, get_or, take, set, replicate, refl, ap, inl, inr, arith}
-use Rattle.std.proofs.lemmas.List.{take_all, get_or-set_same, get_or-set_other}
+use Rattle.std.proofs.Common.{◌≡◌, ℕ, zero, suc, ◌+◌, ◌<◌, ◌≤◌, Bool, true, false, cond, eqb, List, [], length, get_or, take, replicate, refl, ap, arith}
+use Rattle.std.proofs.lemmas.List.{take_all}
 use Rattle.std.proofs.lemmas.List.Sums.{sum_by_more, sum_by-take-le}
-use Rattle.std.proofs.lemmas.Bool.{cases_eq}
 use Rattle.std.proofs.lemmas.Bool.Decides.{nat_tests}
 use Rattle.permutation.specs.Permutation.{count}
 
@@ -17,12 +16,6 @@ marked_none (suc size) (suc n) = marked_none size n
 
 count_more : (n : ℕ) (xs : List ℕ) (i : ℕ) → i < length xs → count n (take (i + 1) xs) ≡ count n (take i xs) + cond (eqb (get_or xs i 0) n) 1 0
 count_more n xs i h = sum_by_more (λ y. cond (eqb y n) 1 0) xs i 0 h
-
-pub marked_more : (seen : List Bool) (xs : List ℕ) (i x : ℕ) → i < length xs → x ≡ get_or xs i 0 → x < length seen → get_or seen x false ≡ false → Marked seen (take i xs) → Marked (set seen x true) (take (i + 1) xs)
-marked_more seen xs i x h is b new m n = elim (cases_eq n x) [
-  | inl e ↦ grind (arith, nat_tests, count_more n xs i h, m n, get_or-set_same seen x true false b)
-  | inr e ↦ grind (arith, nat_tests, count_more n xs i h, m n, get_or-set_other seen x n true false e)
-]
 
 -- a number that is marked already stands in the list twice
 pub marked_again : (seen : List Bool) (xs : List ℕ) (i x : ℕ) → i < length xs → x ≡ get_or xs i 0 → get_or seen x false ≡ true → Marked seen (take i xs) → 2 ≤ count x xs

@@ -1,6 +1,6 @@
 -- What rearranging gives at each place, and what it is accepted for.
-use Rattle.std.proofs.Common.{◌≡◌, ℕ, ◌+◌, ◌<◌, true, List, length, get_or, take, set, Ok, sym, ◌∙◌, arith}
-use Rattle.std.proofs.lemmas.List.{length-map, get_or-map, get_or_default, get_or_read, same_lists, take_more_set, map_more}
+use Rattle.std.proofs.Common.{◌≡◌, ℕ, ◌<◌, true, List, length, get_or, Ok, sym, ◌∙◌, arith}
+use Rattle.std.proofs.lemmas.List.{length-map, get_or-map, get_or_default, same_lists}
 use Rattle.std.proofs.lemmas.Bool.Decides.{nat_tests}
 use Rattle.permutation.specs.Answer.{rearrange_answer}
 use Rattle.permutation.specs.Permutation.{permutes, Permutation, Within, rearranged}
@@ -19,14 +19,6 @@ module _ {A : Type 0} where
       same_lists (rearranged d xs o) (rearranged e xs o) (rearranged_length d xs o ∙ sym (rearranged_length e xs o))
       (λ i c h. let b : i < length o = omega (arith, rearranged_length d xs o) in
       rearranged_at d c xs o i b ∙ get_or_default xs (get_or o i 0) d e (w i b) ∙ sym (rearranged_at e c xs o i b))
-
-  -- one more place, by x that is read from xs at n
-  pub rearranged_more : (d : A) (xs ys : List A) (o : List ℕ) (i n : ℕ) (x : A) → i < length ys → i < length o → n ≡ get_or o i 0 → n < length xs → x ≡ get_or xs n x → take i ys ≡ rearranged d xs (take i o) → take (i + 1) (set ys i x) ≡ rearranged d xs (take (i + 1) o)
-  rearranged_more d xs ys o i n x h k at b is e =
-      let s = take_more_set ys i x h in
-      let r = get_or_read xs n x b is d in
-      let m = map_more (λ j. get_or xs j d) o i 0 k in
-      cc
 
 pub accepted : (listed targeted : ℕ) (o : List ℕ) → Ok tt ≡ rearrange_answer listed o targeted → (listed ≡ length o) × (targeted ≡ length o) × Permutation o
 accepted listed targeted o e =

@@ -15,7 +15,7 @@ use fault::OrderFault;
 const MOST_CARDS: usize = 52;
 
 // A byte is one of so many numbers.
-const BYTE_VALUES: usize = 256;
+const BYTE_VALUES: usize = u8::MAX as usize + 1;
 
 // Whether `order` holds each number below its length exactly once.
 pub fn is_permutation(order: &[u8]) -> bool
@@ -78,7 +78,5 @@ fn gather<T: Copy>(list: &[T], order: &[u8], target: &mut [T])
 pub fn fill<T: Copy>(target: &mut [T], x: T)
     ensures { target.new ≡ replicate (length target.old) x }
 {
-    for t in target.iter_mut() {
-        *t = x;
-    }
+    target.fill_with(|| x);
 }

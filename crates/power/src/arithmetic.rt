@@ -27,7 +27,8 @@ pub(crate) fn raise<F: Field>(field: &F, x: u32, k: u32) -> u32
 // Each remainder is, up to its sign, a multiple of k modulo n; `s` is the factor of `high`
 // and `t` that of `low`. The signs alternate.
 pub(crate) fn invert(k: u32, n: u32) -> Option<u32>
-    requires { (k < n) × (2 ≤ n) }
+    requires below { k < n }
+    requires two { 2 ≤ n }
     ensures { result ≡ (if nat_eq (gcd k n) 1 then Some (inverse k n) else None) }
 {
     let mut high = n;
@@ -45,8 +46,5 @@ pub(crate) fn invert(k: u32, n: u32) -> Option<u32>
         t = next;
         positive = !positive;
     }
-    if high > 1 {
-        return None;
-    }
-    if positive { Some(s) } else { Some(n - s) }
+    (high == 1).then_some(if positive { s } else { n - s })
 }

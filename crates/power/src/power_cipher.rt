@@ -16,7 +16,7 @@ pub struct PowerCipher<F> {
 impl<F: Field> PowerCipher<F> {
     // The undo key of a lawful key.
     fn undone_by(&self, key: u32) -> Option<u32>
-        ensures { result ≡ (if (power_cipher (F.Field.meaning self.now.field)).lawful key then Some ((power_cipher (F.Field.meaning self.now.field)).undo key) else None) }
+        ensures { let m = power_cipher (F.meaning self.now.field) in result ≡ (if m.lawful key then Some (m.undo key) else None) }
     {
         let order = self.field.order();
         if key >= order {
@@ -27,9 +27,9 @@ impl<F: Field> PowerCipher<F> {
 }
 
 impl<F: Field> Cipher for PowerCipher<F> {
-    ghost meaning = { λ s. power_cipher (F.Field.meaning s.field) };
+    ghost meaning = { λ s. power_cipher (F.meaning s.field) };
 
-    ghost lawful = { λ s. power_laws (F.Field.meaning s.field) (F.Field.lawful s.field) };
+    ghost lawful = { λ s. power_laws (F.meaning s.field) (F.lawful s.field) };
 
     fn lock(&self, key: u32, value: u32) -> Result<u32, CipherFault> {
         if !self.is_lawful(key) {

@@ -1,13 +1,12 @@
 -- A number out of range or seen before refutes the order, and the marks of all numbers prove it.
-use Rattle.std.proofs.Common.{refl, arith, rules, below_more}
-use Rattle.std.proofs.lemmas.List.{length-set}
-use Rattle.permutation.proofs.Marks.{marked_none, marked_more, marked_again, marked_all}
+use Rattle.std.proofs.Common.{arith, rules}
+use Rattle.permutation.proofs.Marks.{marked_none, marked_again, marked_all}
 use Rattle.permutation.proofs.Permutations.{permutes_true, permutes_false, permutation_within, permutation_from_counts}
 use Rattle.permutation.proofs.is_permutation.Goals as goal
 use Rattle.permutation.proofs.is_permutation.Goals.{then-place-order-via-then-place-order, then-place-order-via-else-place-order+then-seen-place}
 
 pub loop-x-init : goal.loop-x-init
-loop-x-init c = (refl, (λ k h. omega arith), marked_none 256)
+loop-x-init c = search (rules, marked_none)
 
 pub returns-then-place-order : goal.returns-then-place-order
 returns-then-place-order c = permutes_false c.args.order.now (λ p. elim c.then-place-order.branch [
@@ -15,13 +14,6 @@ returns-then-place-order c = permutes_false c.args.order.now (λ p. elim c.then-
   | then-place-order-via-else-place-order+then-seen-place w ↦
       omega (arith, p c.from-place.result (omega arith), marked_again c.loop-x.seen c.args.order.now c.loop-x.x-index c.from-place.result (omega arith) c.from-place.ensures w.if-seen-place.true c.loop-x.invariant.2)
 ])
-
-pub loop-x-preserved : goal.loop-x-preserved
-loop-x-preserved c = (
-  simp length-set (omega arith),
-  below_more _ _ c.loop-x.invariant.1 (omega arith),
-  search (rules, marked_more),
-)
 
 pub returns : goal.returns
 returns c =
