@@ -1,22 +1,17 @@
 -- Locking the values of a deck one after the other.
-use Rattle.std.proofs.Common.{◌≡◌, ℕ, ◌+◌, ◌-◌, ◌<◌, ◌≤◌, Bool, true, false, cond, eqb, List, [], ◌∷◌, ◌++◌, map, length, get_or, take, drop, set, Ok, Err, Result, sym, refl, ap, ◌∙◌, subst, ap₂, append-nil, arith, length-take, get_or-drop, take_all}
+use Rattle.std.proofs.Common.{◌≡◌, ℕ, ◌+◌, ◌-◌, ◌<◌, ◌≤◌, List, [], ◌∷◌, ◌++◌, map, length, get_or, take, drop, set, Ok, sym, refl, ap, ◌∙◌, subst, ap₂, append-nil, arith, length-take, get_or-drop, take_all}
 use lib.ListN.{length-map}
 use Rattle.std.proofs.lemmas.List.Edits.{map_over_more}
 use Rattle.std.proofs.lemmas.List.{get_or-append_right, drop_all, get_or_default}
 use Rattle.std.specs.Result.{result_unwrap_or}
-use Rattle.std.proofs.lemmas.Bool.{eqb-true}
 use Rattle.cipher.specs.Cipher.{CipherMeaning, Value, Lawful}
 use Rattle.cipher.specs.Answers.{lock_answer}
 use Rattle.cipher.specs.Decks.{deck_answer, locked_deck}
 use Rattle.cipher.proofs.Answers.{lock_passes}
 use Rattle.cipher.proofs.Decks.{values_all, all_values}
-use Rattle.cipher.specs.declared.fault.CipherFault.{CipherFault}
-use Rattle.cipher.specs.declared.fault.CipherFault.TheVariants.{UnlawfulKey}
 use Rattle.permutation.specs.Permutation.{Permutation, rearranged}
 use Rattle.permutation.proofs.Permutations.{permutation_within}
 use Rattle.permutation.proofs.Rearranging.{rearranged_length, rearranged_at}
-use Rattle.seat.specs.Answers.{raised, lengths_then_key}
-use Rattle.seat.specs.declared.fault.SeatFault.TheVariants.{WrongLength, Cipher}
 
 -- the first i values of the deck are locked
 abbrev pub locked_to : CipherMeaning → ℕ → List ℕ → ℕ → List ℕ
@@ -39,28 +34,6 @@ module _ (m : CipherMeaning) (key : ℕ) (deck : List ℕ) (i : ℕ) where
 
   pub lock_all : length deck ≤ i → locked_to m key deck i ≡ map (m.lock key) deck
   lock_all h = ap₂ (λ xs ys. map (m.lock key) xs ++ ys) (take_all i deck h) (drop_all i deck h) ∙ append-nil (map (m.lock key) deck)
-
--- what it takes to be locked
-pub record Accepted (m : CipherMeaning) (key size : ℕ) (deck : List ℕ) (target : ℕ) : Type 0 where
-  pub deck_sized : length deck ≡ size
-  pub target_sized : target ≡ size
-  pub lawful : Lawful m key
-  pub values : deck_answer m 0 deck ≡ Ok tt
-
-raised_ok : (r : Result (Unit {0}) CipherFault) → raised r ≡ Ok tt → r ≡ Ok tt
-raised_ok (Ok tt) h = refl
-raised_ok (Err e) h = cc
-
-pub accepted : (m : CipherMeaning) (key size : ℕ) (deck : List ℕ) (target : ℕ) → lengths_then_key m key size deck target ≡ Ok tt → Accepted m key size deck target
-accepted m key size deck target = by (eqb (length deck) size) (eqb target size) (m.lawful key) refl refl refl
-  where
-    by : (a b c : Bool) → eqb (length deck) size ≡ a → eqb target size ≡ b → m.lawful key ≡ c
-        → cond a (cond b (cond c (raised (deck_answer m 0 deck)) (Err (Cipher (UnlawfulKey key)))) (Err (WrongLength target))) (Err (WrongLength (length deck))) ≡ Ok tt
-        → Accepted m key size deck target
-    by true true true ea eb ec h = record { deck_sized = eqb-true _ _ ea; target_sized = eqb-true _ _ eb; lawful = ec; values = raised_ok _ h }
-    by true true false ea eb ec h = cc
-    by true false c ea eb ec h = cc
-    by false b c ea eb ec h = cc
 
 -- rearranged by an order, values stay values
 pub rearranged_values : (m : CipherMeaning) (deck order : List ℕ) → length order ≡ length deck → Permutation order → deck_answer m 0 deck ≡ Ok tt → deck_answer m 0 (rearranged 0 deck order) ≡ Ok tt
