@@ -1,16 +1,17 @@
 // Rearranging lists by orders, and what it refuses.
-use crate::lists::{check_all, numbers, values};
+use crate::lists::{check_all, numbers};
 use permutation::fault::OrderFault;
 use permutation::rearrange;
 use refusal::Refusal;
+use std::array;
 use std::process::Abort;
 use std::test::*;
 
 #[test]
 fn reversed(rt: HostRuntime) -> Result<(), Fail> {
+    let list: [u32; 52] = array::from_fn(|i| 100 + i as u32);
     for length in [0, 1, 2, 52] {
         assert!(rt; length <= 52);
-        let list: [u32; 52] = values();
         let mut order: [u8; 52] = numbers();
         check_reversed(
             &rt,
@@ -123,7 +124,10 @@ fn blank_places(rt: HostRuntime) -> Result<(), Fail> {
 
 #[test]
 fn refusals_as_told(rt: HostRuntime) -> Result<(), Fail> {
-    assert_eq!(rt; Refusal::from(OrderFault::WrongLength(53)), Refusal::with(4, 53));
+    assert_eq!(rt;
+        Refusal::from(OrderFault::WrongLength(53)),
+        Refusal::with(4, 53)
+    );
     assert_eq!(rt; Refusal::from(OrderFault::NotOrder), Refusal::alone(17));
     Ok(())
 }
