@@ -1,8 +1,8 @@
 -- Locking the values of a deck one after the other.
-use Rattle.std.proofs.Common.{◌≡◌, ℕ, ◌+◌, ◌-◌, ◌<◌, ◌≤◌, List, [], ◌∷◌, ◌++◌, map, length, get_or, take, drop, set, Ok, sym, refl, ap, ◌∙◌, subst, ap₂, append-nil, arith, length-take, get_or-drop, take_all}
+use Rattle.std.proofs.Common.{◌≡◌, ℕ, ◌+◌, ◌-◌, ◌<◌, List, [], ◌∷◌, ◌++◌, map, length, get_or, take, drop, set, Ok, sym, refl, ap, ◌∙◌, subst, arith, length-take, get_or-drop}
 use lib.ListN.{length-map}
 use Rattle.std.proofs.lemmas.List.Edits.{map_over_more}
-use Rattle.std.proofs.lemmas.List.{get_or-append_right, drop_all, get_or_default}
+use Rattle.std.proofs.lemmas.List.{get_or-append_right, get_or_default}
 use Rattle.std.specs.Result.{result_unwrap_or}
 use Rattle.cipher.specs.Cipher.{CipherMeaning, Value, Lawful}
 use Rattle.cipher.specs.Answers.{lock_answer}
@@ -31,9 +31,6 @@ module _ (m : CipherMeaning) (key : ℕ) (deck : List ℕ) (i : ℕ) where
       let passes = lock_passes m key (get_or deck i 0) lawful (values_all m 0 deck values i h) in
       let is : v ≡ m.lock key (get_or ys i 0) = locked ∙ ap (λ (x : ℕ). result_unwrap_or (lock_answer m key x) 0) read ∙ ap (λ r. result_unwrap_or r 0) passes ∙ ap (m.lock key) (sym read) in
       ap (set ys i) is ∙ map_over_more (m.lock key) deck ys i (get_or ys i 0) h so_far (get_or_default ys i 0 (get_or ys i 0) (omega arith))
-
-  pub lock_all : length deck ≤ i → locked_to m key deck i ≡ map (m.lock key) deck
-  lock_all h = ap₂ (λ xs ys. map (m.lock key) xs ++ ys) (take_all i deck h) (drop_all i deck h) ∙ append-nil (map (m.lock key) deck)
 
 -- rearranged by an order, values stay values
 pub rearranged_values : (m : CipherMeaning) (deck order : List ℕ) → length order ≡ length deck → Permutation order → deck_answer m 0 deck ≡ Ok tt → deck_answer m 0 (rearranged 0 deck order) ≡ Ok tt

@@ -46,7 +46,7 @@ pub trait Seat {
         // No lock wants memory, so the order has room for any size.
         let mut room = [0; MOST_CARDS];
         let size = usize::from(self.size());
-        let order = &mut room[0..size];
+        let order = &mut room[..size];
         self.order(order)?;
         lock_deck(cipher, self.key(cipher), order, deck, target)
     }

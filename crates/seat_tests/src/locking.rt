@@ -3,6 +3,7 @@ use crate::keyed::made;
 use crate::lists::check_all;
 use cipher::Cipher;
 use cipher::fault::CipherFault;
+use permutation::fault::OrderFault;
 use power::power_cipher::PowerCipher;
 use prime::PrimeField;
 use refusal::Refusal;
@@ -109,5 +110,15 @@ fn refusals_as_told(rt: HostRuntime) -> Result<(), Fail> {
     );
     assert_eq!(rt; Refusal::from(not_value(2, 9)), Refusal::with_both(5, 2, 9));
     assert_eq!(rt; Refusal::from(UNLAWFUL_SEVEN), Refusal::with(16, 7));
+    Ok(())
+}
+
+#[test]
+fn faults_of_orders(rt: HostRuntime) -> Result<(), Fail> {
+    assert_eq!(rt;
+        SeatFault::from(OrderFault::WrongLength(53)),
+        SeatFault::WrongLength(53)
+    );
+    assert_eq!(rt; SeatFault::from(OrderFault::NotOrder), SeatFault::NotOrder);
     Ok(())
 }

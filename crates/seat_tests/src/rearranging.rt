@@ -80,18 +80,20 @@ fn wrong_lengths(rt: HostRuntime) -> Result<(), Fail> {
 }
 
 // The lengths are looked at first.
+const NOT_ORDERS: [(&[u32], &[u8], OrderFault); 4] = [
+    (&[1, 2], &[0, 0], OrderFault::NotOrder),
+    (&[1, 2], &[1, 2], OrderFault::NotOrder),
+    (&[1; 52], &[0; 52], OrderFault::NotOrder),
+    (&[1; 53], &[0; 53], OrderFault::WrongLength(53)),
+];
+
 #[test]
 fn not_orders(rt: HostRuntime) -> Result<(), Fail> {
-    check_refused(&rt, &[1, 2], &[0, 0], &mut [9; 2], OrderFault::NotOrder)?;
-    check_refused(&rt, &[1, 2], &[1, 2], &mut [9; 2], OrderFault::NotOrder)?;
-    check_refused(&rt, &[1; 52], &[0; 52], &mut [9; 52], OrderFault::NotOrder)?;
-    check_refused(
-        &rt,
-        &[1; 53],
-        &[0; 53],
-        &mut [9; 53],
-        OrderFault::WrongLength(53),
-    )
+    for (list, order, fault) in NOT_ORDERS {
+        assert!(rt; list.len() <= 53);
+        check_refused(&rt, list, order, &mut [9; 53][..list.len()], fault)?;
+    }
+    Ok(())
 }
 
 fn check_refused(

@@ -1,12 +1,11 @@
 -- Why the cards that both seats open are those that the two orders, composed, tell.
-use Rattle.std.proofs.Common.{◌≡◌, ℕ, ◌<◌, ◌≤◌, Bool, true, false, cond, eqb, ltb, List, [], ◌∷◌, map, length, get_or, IsOkAnd, Some, None, Ok, Err, Option, Result, sym, refl, ap, ◌∙◌, subst, ap₂, arith}
+use Rattle.std.proofs.Common.{◌≡◌, ℕ, ◌<◌, ◌≤◌, Bool, true, false, cond, eqb, List, [], ◌∷◌, map, length, get_or, IsOkAnd, Some, None, Ok, Err, Option, Result, sym, refl, ap, ◌∙◌, subst, ap₂, arith}
 use Rattle.std.proofs.lemmas.List.FromFn.{length-map-range_with_len, get_or-map-range_with_len}
 use Rattle.std.proofs.lemmas.List.{length-map, get_or-map}
-use Rattle.std.proofs.lemmas.Bool.{cond-true, eqb-true, lt-ltb}
+use Rattle.std.proofs.lemmas.Bool.{cond-true, eqb-true}
 use Rattle.std.proofs.lemmas.Result.{MatchResult-at_ok}
 use Rattle.cipher.specs.Cipher.{CipherMeaning, CipherLaws, Value, Lawful}
-use Rattle.std.specs.Result.{result_unwrap_or}
-use Rattle.cipher.specs.Answers.{Reads, code_answer}
+use Rattle.cipher.specs.Answers.{Reads}
 use Rattle.cipher.specs.Decks.{deck_answer, locked_deck}
 use Rattle.cipher.specs.declared.fault.CipherFault.{CipherFault}
 use Rattle.cipher.specs.declared.fault.CipherFault.TheVariants.{UnlawfulKey}
@@ -58,9 +57,6 @@ module _ (m : CipherMeaning) (laws : CipherLaws m) where
 
   code_at : (n i : ℕ) → i < n → get_or (codes n) i 0 ≡ m.code i
   code_at n i h = get_or-map-range_with_len m.code 0 n i i 0 h (omega arith)
-
-  pub code_written : (c : ℕ) → c < 52 → result_unwrap_or (code_answer m c) 0 ≡ m.code c
-  code_written c h = ap (λ r. result_unwrap_or r 0) (cond-true (ltb c 52) _ _ (lt-ltb c 52 h))
 
   pub codes_length : (n : ℕ) → length (codes n) ≡ n
   codes_length n = length-map-range_with_len m.code 0 n

@@ -33,12 +33,11 @@ pub(crate) fn next_lawful<C: Cipher>(cipher: &C, first: u32) -> u32
 }
 
 // Fills the order with its own places, and shuffles it by the numbers drawn after z.
-pub(crate) fn shuffle(z: u32, order: &mut [u8])
+pub(crate) fn shuffle(mut z: u32, order: &mut [u8])
     requires { length order.old ≤ 52 }
     ensures { order.new ≡ shuffled (length order.old - 1) z (upto (length order.old)) }
 {
     number_places(order);
-    let mut z = z;
     for i in (1..order.len()).rev() {
         z = drawn_after(z);
         order.swap(i, z as usize % (i + 1));

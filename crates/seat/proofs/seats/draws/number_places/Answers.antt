@@ -1,11 +1,7 @@
 use Rattle.std.proofs.Common.{ℕ, length, ◌∙◌, arith}
 use Rattle.std.proofs.lemmas.List.FromFn.{fill_by_all}
-use Rattle.std.proofs.lemmas.List.Edits.{fill_by_more}
 use Rattle.std.proofs.lemmas.List.{map-id}
 use Rattle.seat.proofs.seats.draws.number_places.Goals as goal
-
-pub loop-i-preserved : goal.loop-i-preserved
-loop-i-preserved c = fill_by_more (λ (k : ℕ). k) c.loop-i.order c.loop-i.i 0 (omega arith) c.loop-i.invariant
 
 pub returns : goal.returns
 returns c = fill_by_all (λ (k : ℕ). k) c.loop-i.order (length c.args.order.now) 0 c.loop-i.auto.order (λ k h. c.loop-i.invariant k (omega arith)) ∙ map-id _
