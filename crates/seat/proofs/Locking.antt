@@ -1,25 +1,17 @@
 -- Locking the values of a deck one after the other.
-use Rattle.std.proofs.Common.{◌≡◌, ℕ, ◌+◌, ◌-◌, ◌<◌, ◌≤◌, Bool, true, false, cond, eqb, leb, List, [], ◌∷◌, ◌++◌, map, length, get_or, take, drop, set, replicate, Ok, Err, Result, sym, refl, ap, ◌∙◌, subst, ap₂, append-nil, arith, length-take, get_or-drop, take_all, MatchResult}
+use Rattle.std.proofs.Common.{◌≡◌, ℕ, ◌+◌, ◌-◌, ◌<◌, List, [], ◌∷◌, ◌++◌, map, length, get_or, take, drop, set, Ok, sym, refl, ap, ◌∙◌, subst, arith, length-take, get_or-drop}
 use lib.ListN.{length-map}
 use Rattle.std.proofs.lemmas.List.Edits.{map_over_more}
-use Rattle.std.proofs.lemmas.List.{get_or-append_right, drop_all, get_or_default}
+use Rattle.std.proofs.lemmas.List.{get_or-append_right, get_or_default}
 use Rattle.std.specs.Result.{result_unwrap_or}
-use Rattle.std.proofs.lemmas.Bool.{eqb-true, eq-eqb, le-leb, and_from, cond-true}
-use Rattle.std.proofs.lemmas.Result.{MatchResult-at_ok}
 use Rattle.cipher.specs.Cipher.{CipherMeaning, Value, Lawful}
 use Rattle.cipher.specs.Answers.{lock_answer}
 use Rattle.cipher.specs.Decks.{deck_answer, locked_deck}
 use Rattle.cipher.proofs.Answers.{lock_passes}
 use Rattle.cipher.proofs.Decks.{values_all, all_values}
-use Rattle.cipher.specs.declared.fault.CipherFault.{CipherFault}
-use Rattle.cipher.specs.declared.fault.CipherFault.TheVariants.{UnlawfulKey}
-use Rattle.permutation.specs.Permutation.{Permutation, permutes, rearranged}
-use Rattle.permutation.specs.Answer.{rearrange_answer}
-use Rattle.permutation.specs.declared.fault.OrderFault.{OrderFault}
+use Rattle.permutation.specs.Permutation.{Permutation, rearranged}
 use Rattle.permutation.proofs.Permutations.{permutation_within}
 use Rattle.permutation.proofs.Rearranging.{rearranged_length, rearranged_at}
-use Rattle.seat.specs.Answers.{raised, filled, lengths_then_key}
-use Rattle.seat.specs.declared.fault.SeatFault.TheVariants.{WrongLength, Cipher}
 
 -- the first i values of the deck are locked
 abbrev pub locked_to : CipherMeaning → ℕ → List ℕ → ℕ → List ℕ
@@ -40,34 +32,6 @@ module _ (m : CipherMeaning) (key : ℕ) (deck : List ℕ) (i : ℕ) where
       let is : v ≡ m.lock key (get_or ys i 0) = locked ∙ ap (λ (x : ℕ). result_unwrap_or (lock_answer m key x) 0) read ∙ ap (λ r. result_unwrap_or r 0) passes ∙ ap (m.lock key) (sym read) in
       ap (set ys i) is ∙ map_over_more (m.lock key) deck ys i (get_or ys i 0) h so_far (get_or_default ys i 0 (get_or ys i 0) (omega arith))
 
-  pub lock_all : length deck ≤ i → locked_to m key deck i ≡ map (m.lock key) deck
-  lock_all h = ap₂ (λ xs ys. map (m.lock key) xs ++ ys) (take_all i deck h) (drop_all i deck h) ∙ append-nil (map (m.lock key) deck)
-
--- what it takes to be locked
-pub record Accepted (m : CipherMeaning) (key size : ℕ) (deck : List ℕ) (target : ℕ) : Type 0 where
-  pub deck_sized : length deck ≡ size
-  pub target_sized : target ≡ size
-  pub lawful : Lawful m key
-  pub values : deck_answer m 0 deck ≡ Ok tt
-
-not_ok : {A E : Type 0} {e : E} {a : A} → ◌≡◌ {A = Result A E} (Err e) (Ok a) → ⊥
-not_ok h = let z : ◌≡◌ {A = ℕ} 0 1 = cc in omega arith
-
-raised_ok : (r : Result (Unit {0}) CipherFault) → raised r ≡ Ok tt → r ≡ Ok tt
-raised_ok (Ok tt) h = refl
-raised_ok (Err e) h = absurd (not_ok h)
-
-pub accepted : (m : CipherMeaning) (key size : ℕ) (deck : List ℕ) (target : ℕ) → lengths_then_key m key size deck target ≡ Ok tt → Accepted m key size deck target
-accepted m key size deck target = by (eqb (length deck) size) (eqb target size) (m.lawful key) refl refl refl
-  where
-    by : (a b c : Bool) → eqb (length deck) size ≡ a → eqb target size ≡ b → m.lawful key ≡ c
-        → cond a (cond b (cond c (raised (deck_answer m 0 deck)) (Err (Cipher (UnlawfulKey key)))) (Err (WrongLength target))) (Err (WrongLength (length deck))) ≡ Ok tt
-        → Accepted m key size deck target
-    by true true true ea eb ec h = record { deck_sized = eqb-true _ _ ea; target_sized = eqb-true _ _ eb; lawful = ec; values = raised_ok _ h }
-    by true true false ea eb ec h = absurd (not_ok h)
-    by true false c ea eb ec h = absurd (not_ok h)
-    by false b c ea eb ec h = absurd (not_ok h)
-
 -- rearranged by an order, values stay values
 pub rearranged_values : (m : CipherMeaning) (deck order : List ℕ) → length order ≡ length deck → Permutation order → deck_answer m 0 deck ≡ Ok tt → deck_answer m 0 (rearranged 0 deck order) ≡ Ok tt
 rearranged_values m deck order same perm values =
@@ -81,15 +45,3 @@ rearranged_values m deck order same perm values =
 pub locked_rearranged : (m : CipherMeaning) (key : ℕ) (deck order : List ℕ) → map (m.lock key) (rearranged 0 deck order) ≡ locked_deck m key order deck
 locked_rearranged m key deck [] = refl
 locked_rearranged m key deck (o ∷ os) = ap (λ (xs : List ℕ). m.lock key (get_or deck o 0) ∷ xs) (locked_rearranged m key deck os)
-
--- what rearranging leaves in a target, where the lock is accepted
-pub rearranges : (m : CipherMeaning) (key : ℕ) (deck order target' : List ℕ) (target : ℕ) (r : Result (Unit {0}) OrderFault) → length order ≤ 52 → permutes order ≡ true
-    → Accepted m key (length order) deck target → r ≡ rearrange_answer (length deck) order target
-    → MatchResult r (λ _. (d : ℕ) → target' ≡ rearranged d deck order) (λ _. target' ≡ replicate target 0) → target' ≡ rearranged 0 deck order
-rearranges m key deck order target' target r few ordered a answer written =
-    let fit = and_from _ (leb (length order) 52) (and_from _ _ (eq-eqb _ _ a.deck_sized) (eq-eqb _ _ a.target_sized)) (le-leb _ 52 few) in
-    let ok = answer ∙ cond-true _ _ _ fit ∙ cond-true _ _ _ ordered in
-    MatchResult-at_ok _ _ tt ok written 0
-
-pub filled_ok : {E : Type 0} (r : Result (Unit {0}) E) (xs wanted : List ℕ) (blank n : ℕ) → r ≡ Ok tt → xs ≡ wanted → xs ≡ filled r wanted blank n
-filled_ok r xs wanted blank n ok same = same ∙ ap (λ q. filled q wanted blank n) (sym ok)

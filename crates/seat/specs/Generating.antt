@@ -1,10 +1,10 @@
 -- The generator seat: its key is lawful, and its order is an order.
-use Rattle.std.specs.Prelude.{◌≡◌, ℕ, zero, suc, ◌+◌, ◌-◌, ◌%◌, ◌<◌, ◌≤◌, Bool, true, false, cond, List, length, nat_le, nat_lt, refl}
+use Rattle.std.specs.Prelude.{◌≡◌, ℕ, zero, suc, ◌+◌, ◌-◌, ◌%◌, ◌<◌, ◌≤◌, Bool, true, false, cond, List, length, Option, Some, None, MatchOption, nat_le, nat_lt, refl, unwrap_or}
 use Rattle.std.proofs.Common.{sym, ap, ap₂, subst, ◌∙◌, inl, inr, mod-lt, arith}
 use Rattle.std.specs.List.{swap}
 use Rattle.std.proofs.lemmas.List.FromFn.{length-range_with_len}
 use Rattle.std.proofs.lemmas.List.Edits.{length-swap}
-use Rattle.std.proofs.lemmas.Bool.{cond-true, cond-false, cases_Bool, ltb-false, leb-true, and_parts, true≢false}
+use Rattle.std.proofs.lemmas.Bool.{cond-true, cond-false, cases_Bool, ltb-false, leb-true, and_parts}
 use Rattle.cipher.specs.Cipher.{CipherMeaning, CipherLaws, Lawful}
 use Rattle.permutation.specs.Permutation.{Permutation, upto}
 use Rattle.permutation.proofs.Permutations.{upto_permutation, exchanged_permutation, permutes_decides}
@@ -12,18 +12,36 @@ use Rattle.seat.specs.Seat.{SeatLaws}
 use Rattle.seat.specs.Generator.{drawn, climbed, lawful_from, shuffled, generator_order, fit, generator_seat}
 
 -- climbing stops at a number that passes
-pub climbed_here : (test : ℕ → Bool) (n k : ℕ) → test k ≡ true → climbed test n k ≡ k
+climbed_here : (test : ℕ → Bool) (n k : ℕ) → test k ≡ true → climbed test n k ≡ k
 unfolding climbed
 climbed_here test zero k t = refl
 climbed_here test (suc n) k t = cond-true (test k) k _ t
 
--- and goes on from one that does not
-pub climbed_on : (test : ℕ → Bool) (last k : ℕ) → k < last → test k ≡ false → climbed test (last - k) k ≡ climbed test (last - (k + 1)) (k + 1)
+-- and goes on past d numbers that do not
+climbed_past : (test : ℕ → Bool) (d n k : ℕ) → ((j : ℕ) → k ≤ j → j < k + d → test j ≡ false) → climbed test (d + n) k ≡ climbed test n (k + d)
 unfolding climbed
-climbed_on test last k below t =
-    let one_more : last - k ≡ suc (last - (k + 1)) = omega arith in
-    let next : suc k ≡ k + 1 = omega arith in
-    ap (λ (n : ℕ). climbed test n k) one_more ∙ cond-false (test k) k _ t ∙ ap (climbed test (last - (k + 1))) next
+climbed_past test zero n k fail =
+    let none_more : zero + n ≡ n = omega arith in
+    let same : k ≡ k + zero = omega arith in
+    ap₂ (climbed test) none_more same
+climbed_past test (suc d) n k fail =
+    let one_more : suc d + n ≡ suc (d + n) = omega arith in
+    let same : suc k + d ≡ k + suc d = omega arith in
+    ap (λ (x : ℕ). climbed test x k) one_more ∙ cond-false (test k) k _ (fail k (omega arith) (omega arith))
+    ∙ climbed_past test d n (suc k) (λ j low high. fail j (omega arith) (omega arith)) ∙ ap (climbed test n) same
+
+-- so it ends at the first number that passes, or else at the last
+pub climbed_first : (test : ℕ → Bool) (k last : ℕ) (r : Option ℕ) → k ≤ last
+    → MatchOption r ((j : ℕ) → k ≤ j → j < last → test j ≡ false) (λ i. (k ≤ i) × (i < last) × (test i ≡ true) × ((j : ℕ) → k ≤ j → j < i → test j ≡ false))
+    → climbed test (last - k) k ≡ unwrap_or r last
+unfolding climbed
+climbed_first test k last None within none =
+    ap (λ (n : ℕ). climbed test n k) (omega arith) ∙ climbed_past test (last - k) 0 k (λ j low high. none j low (omega arith)) ∙ omega arith
+climbed_first test k last (Some i) within first =
+    let whole : last - k ≡ i - k + (last - i) = omega arith in
+    let there : k + (i - k) ≡ i = omega arith in
+    ap (λ (n : ℕ). climbed test n k) whole ∙ climbed_past test (i - k) (last - i) k (λ j low high. first.3 j low (omega arith))
+    ∙ ap (climbed test (last - i)) there ∙ climbed_here test (last - i) i first.2
 
 climbed_passes : (test : ℕ → Bool) (n k : ℕ) → test (k + n) ≡ true → test (climbed test n k) ≡ true
 unfolding climbed
@@ -50,12 +68,6 @@ module _ (m : CipherMeaning) (laws : CipherLaws m) where
       let first = cond (nat_lt m.last_key number) 1 number in
       let whole : first + (m.last_key - first) ≡ m.last_key = omega (arith, start_most number) in
       climbed_passes m.lawful (m.last_key - first) first (subst (λ (x : ℕ). Lawful m x) (sym whole) laws.last_lawful)
-
-  -- short of the last key, a key that is not lawful is not the last
-  pub below_last : (k : ℕ) → k ≤ m.last_key → m.lawful k ≡ false → k < m.last_key
-  below_last k most t =
-      let other : k ≡ m.last_key → ⊥ = λ same. true≢false (sym (subst (λ (x : ℕ). Lawful m x) (sym same) laws.last_lawful) ∙ t) in
-      omega arith
 
 shuffled_order : (n z : ℕ) (order : List ℕ) → n < length order → Permutation order → (length (shuffled n z order) ≡ length order) × Permutation (shuffled n z order)
 unfolding shuffled

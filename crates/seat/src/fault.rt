@@ -1,9 +1,10 @@
 // How a seat refuses.
 ghost use Rattle.std.specs.Prelude.{◌≡◌};
-ghost use Rattle.seat.specs.Refusals.{refusal_of};
+ghost use Rattle.seat.specs.Refusals.{refusal_of, fault_of_order};
 ghost use Rattle.seat.specs.declared.fault.SeatFault.TheVariants.{Cipher as OfCipher};
 
 use cipher::fault::CipherFault;
+use permutation::fault::OrderFault;
 use refusal::Refusal;
 
 #[derive(Clone, Copy, PartialEq, Eq, Debug)]
@@ -20,6 +21,17 @@ impl From<CipherFault> for SeatFault {
 
     fn from(fault: CipherFault) -> SeatFault {
         SeatFault::Cipher(fault)
+    }
+}
+
+impl From<OrderFault> for SeatFault {
+    ghost from_gives = { λ fault r. r ≡ fault_of_order fault };
+
+    fn from(fault: OrderFault) -> SeatFault {
+        match fault {
+            OrderFault::WrongLength(length) => SeatFault::WrongLength(length),
+            OrderFault::NotOrder => SeatFault::NotOrder,
+        }
     }
 }
 

@@ -14,11 +14,12 @@ ghost use Rattle.permutation.specs.Permutation.{permutes};
 ghost use Rattle.seat.specs.Seat.{SeatMeaning, SeatLaws};
 ghost use Rattle.seat.specs.Answers.{order_answer, lock_answer, unlock_answer, filled};
 
-use cipher::Cipher;
+use cipher::{CARDS, Cipher};
 use fault::SeatFault;
 use locks::lock_deck;
 
-const MOST_CARDS: usize = 52;
+// The largest size of a seat.
+pub const MOST_CARDS: usize = CARDS as usize;
 
 pub trait Seat {
     ghost meaning: { Self → SeatMeaning };
@@ -42,9 +43,10 @@ pub trait Seat {
         ensures answer { result ≡ lock_answer (C.Cipher.meaning cipher.now) (meaning self.now) deck.now (length target.old) }
         ensures written { target.new ≡ filled result (locked_deck (C.Cipher.meaning cipher.now) ((meaning self.now).key (C.Cipher.meaning cipher.now)) (meaning self.now).order deck.now) 0 (length target.old) }
     {
+        // No lock wants memory, so the order has room for any size.
         let mut room = [0; MOST_CARDS];
         let size = usize::from(self.size());
-        let order = &mut room[0..size];
+        let order = &mut room[..size];
         self.order(order)?;
         lock_deck(cipher, self.key(cipher), order, deck, target)
     }

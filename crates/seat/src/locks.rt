@@ -7,6 +7,7 @@ ghost use Rattle.seat.specs.Answers.{lengths_then_key, filled};
 use crate::fault::SeatFault;
 use cipher::fault::CipherFault;
 use cipher::{Cipher, check_deck};
+use permutation::blank::Blank;
 use permutation::{fill, rearrange};
 
 // Refused, it leaves a target of blanks.
@@ -22,15 +23,13 @@ pub(crate) fn lock_deck<C: Cipher>(
     ensures answer { result ≡ lengths_then_key (C.Cipher.meaning cipher.now) key (length order.now) deck.now (length target.old) }
     ensures written { target.new ≡ filled result (locked_deck (C.Cipher.meaning cipher.now) key order.now deck.now) 0 (length target.old) }
 {
-    let answer = check_lock(cipher, key, order.len(), deck, target.len());
-    match answer {
-        Ok(()) => {
-            let _ = rearrange(deck, order, target);
-            lock_each(cipher, key, target);
-        }
-        Err(_) => fill(target, 0),
+    if let Err(fault) = check_lock(cipher, key, order.len(), deck, target.len()) {
+        fill(target, u32::blank());
+        return Err(fault);
     }
-    answer
+    rearrange(deck, order, target)?;
+    lock_each(cipher, key, target);
+    Ok(())
 }
 
 fn check_lock<C: Cipher>(

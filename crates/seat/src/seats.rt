@@ -1,30 +1,28 @@
 // The two kinds of seat, and either of them.
 mod draws;
 
-ghost use Rattle.std.specs.Prelude.{◌≡◌};
-ghost use Rattle.seat.specs.Answers.{keyed_answer, told};
+ghost use Rattle.std.specs.Prelude.{◌≡◌, length};
+ghost use Rattle.seat.specs.Answers.{keyed_answer, told, order_answer, filled};
 ghost use Rattle.seat.specs.Generator.{generator_answer};
 ghost use Rattle.seat.specs.Kinds.{keyed_meaning, generator_meaning, any_meaning};
 ghost use Rattle.seat.specs.Laws.{keyed_laws, drawn_laws, any_laws};
 
-use crate::Seat;
 use crate::any::AnySeat;
 use crate::fault::SeatFault;
 use crate::generator::GeneratorSeat;
 use crate::keyed::KeyedSeat;
-use cipher::Cipher;
-use draws::{drawn_after, next_lawful, shuffle};
+use crate::{MOST_CARDS, Seat};
+use cipher::{CARDS, Cipher};
+use draws::{LAST_START, drawn_after, next_lawful, shuffle};
+use permutation::blank::Blank;
 use permutation::{fill, is_permutation};
-
-// The blank among place numbers.
-const NO_PLACE: u8 = 255;
 
 impl KeyedSeat {
     pub fn new(key: u32, order: Vec<u8>) -> Result<KeyedSeat, SeatFault>
         ensures { told keyed_meaning result ≡ keyed_answer key order.items }
     {
         let length = order.len();
-        if length < 2 || length > 52 {
+        if !(2..=MOST_CARDS).contains(&length) {
             return Err(SeatFault::WrongLength(length));
         }
         if !is_permutation(&order) {
@@ -48,11 +46,7 @@ impl Seat for KeyedSeat {
     }
 
     fn order(&self, target: &mut [u8]) -> Result<(), SeatFault> {
-        let length = target.len();
-        if length != self.order.len() {
-            fill(target, NO_PLACE);
-            return Err(SeatFault::WrongLength(length));
-        }
+        check_target(self.order.len(), target)?;
         target.copy_from_slice(&self.order);
         Ok(())
     }
@@ -62,7 +56,7 @@ impl GeneratorSeat {
     pub fn new(start: u32, size: u8) -> Result<GeneratorSeat, SeatFault>
         ensures { told generator_meaning result ≡ generator_answer start size }
     {
-        if start < 1 || start > 2147483646 || size < 2 || size > 52 {
+        if !(1..=LAST_START).contains(&start) || !(2..=CARDS).contains(&size) {
             return Err(SeatFault::UnfitGenerator);
         }
         Ok(GeneratorSeat { start, size })
@@ -83,11 +77,7 @@ impl Seat for GeneratorSeat {
     }
 
     fn order(&self, target: &mut [u8]) -> Result<(), SeatFault> {
-        let length = target.len();
-        if length != usize::from(self.size) {
-            fill(target, NO_PLACE);
-            return Err(SeatFault::WrongLength(length));
-        }
+        check_target(usize::from(self.size), target)?;
         shuffle(drawn_after(self.start), target);
         Ok(())
     }
@@ -118,4 +108,17 @@ impl Seat for AnySeat {
             AnySeat::Generator(seat) => seat.order(target),
         }
     }
+}
+
+// Refuses a target whose length is not the size, and leaves it blank.
+fn check_target(size: usize, target: &mut [u8]) -> Result<(), SeatFault>
+    ensures answer { result ≡ order_answer size (length target.old) }
+    ensures written { target.new ≡ filled result target.old 255 (length target.old) }
+{
+    let length = target.len();
+    if length != size {
+        fill(target, u8::blank());
+        return Err(SeatFault::WrongLength(length));
+    }
+    Ok(())
 }

@@ -31,11 +31,7 @@ const SIZES: [(u8, bool); 6] = [
 fn limits(rt: HostRuntime) -> Result<(), Fail> {
     for (start, fit_start) in STARTS {
         for (size, fit_size) in SIZES {
-            let fault = if fit_start && fit_size {
-                None
-            } else {
-                Some(SeatFault::UnfitGenerator)
-            };
+            let fault = (!fit_start || !fit_size).then_some(SeatFault::UnfitGenerator);
             assert_eq!(rt; GeneratorSeat::new(start, size).err(), fault);
         }
     }
@@ -86,7 +82,8 @@ fn order_from_the_first_start(rt: HostRuntime) -> Result<(), Fail> {
     check_order(
         &rt,
         1,
-        [
+        &mut [255; 52],
+        &[
             33, 22, 12, 50, 46, 19, 4, 1, 39, 26, 20, 30, 36, 11, 43, 13, 3, 9, 28, 48, 14, 34, 38,
             7, 16, 24, 32, 29, 40, 31, 44, 42, 6, 45, 35, 25, 15, 27, 21, 2, 0, 23, 51, 37, 47, 18,
             10, 49, 41, 8, 5, 17,
@@ -99,7 +96,8 @@ fn order_from_the_last_start(rt: HostRuntime) -> Result<(), Fail> {
     check_order(
         &rt,
         2147483646,
-        [
+        &mut [255; 52],
+        &[
             9, 16, 21, 15, 17, 19, 31, 35, 44, 1, 3, 11, 12, 27, 13, 18, 49, 46, 48, 47, 8, 22, 34,
             0, 36, 25, 4, 26, 42, 41, 24, 14, 40, 7, 37, 43, 51, 32, 28, 5, 38, 50, 45, 30, 29, 33,
             10, 23, 2, 39, 20, 6,
@@ -107,10 +105,10 @@ fn order_from_the_last_start(rt: HostRuntime) -> Result<(), Fail> {
     )
 }
 
-fn check_order(rt: &impl Abort, start: u32, order: [u8; 52]) -> Result<(), Fail> {
-    let mut target = [255; 52];
-    assert_eq!(rt; GeneratorSeat::new(start, 52)?.order(&mut target), Ok(()));
-    assert_eq!(rt; target, order);
+fn check_order(rt: &impl Abort, start: u32, target: &mut [u8], order: &[u8]) -> Result<(), Fail> {
+    let size = u8::try_from(order.len())?;
+    assert_eq!(rt; GeneratorSeat::new(start, size)?.order(target), Ok(()));
+    assert_eq!(rt; &*target, order);
     Ok(())
 }
 
@@ -118,11 +116,8 @@ fn check_order(rt: &impl Abort, start: u32, order: [u8; 52]) -> Result<(), Fail>
 #[test]
 fn two_places(rt: HostRuntime) -> Result<(), Fail> {
     let mut target = [9; 2];
-    assert_eq!(rt; GeneratorSeat::new(1, 2)?.order(&mut target), Ok(()));
-    assert_eq!(rt; target, [0, 1]);
-    assert_eq!(rt; GeneratorSeat::new(2, 2)?.order(&mut target), Ok(()));
-    assert_eq!(rt; target, [1, 0]);
-    Ok(())
+    check_order(&rt, 1, &mut target, &[0, 1])?;
+    check_order(&rt, 2, &mut target, &[1, 0])
 }
 
 #[test]

@@ -30,16 +30,19 @@ fn counted(rt: &HostRuntime, length: usize) -> Result<Result<KeyedSeat, SeatFaul
 }
 
 // The length is looked at before the order.
+const NOT_ORDERS: [(&[u8], SeatFault); 5] = [
+    (&[0, 0], SeatFault::NotOrder),
+    (&[1, 2], SeatFault::NotOrder),
+    (&[0; 52], SeatFault::NotOrder),
+    (&[1], SeatFault::WrongLength(1)),
+    (&[0; 53], SeatFault::WrongLength(53)),
+];
+
 #[test]
 fn not_orders(rt: HostRuntime) -> Result<(), Fail> {
-    assert_eq!(rt; made(&rt, 5, &[0, 0])?.err(), Some(SeatFault::NotOrder));
-    assert_eq!(rt; made(&rt, 5, &[1, 2])?.err(), Some(SeatFault::NotOrder));
-    assert_eq!(rt; made(&rt, 5, &[0; 52])?.err(), Some(SeatFault::NotOrder));
-    assert_eq!(rt; made(&rt, 5, &[1])?.err(), Some(SeatFault::WrongLength(1)));
-    assert_eq!(rt;
-        made(&rt, 5, &[0; 53])?.err(),
-        Some(SeatFault::WrongLength(53))
-    );
+    for (order, fault) in NOT_ORDERS {
+        assert_eq!(rt; made(&rt, 5, order)?.err(), Some(fault));
+    }
     Ok(())
 }
 

@@ -3,6 +3,7 @@ use crate::keyed::made;
 use crate::lists::check_all;
 use cipher::Cipher;
 use cipher::fault::CipherFault;
+use permutation::fault::OrderFault;
 use power::power_cipher::PowerCipher;
 use prime::PrimeField;
 use refusal::Refusal;
@@ -47,52 +48,25 @@ fn two_locks_off(rt: HostRuntime) -> Result<(), Fail> {
 // The deck's length is looked at first, then the target's, the key, and the values from place 0 on.
 #[test]
 fn locks_refused(rt: HostRuntime) -> Result<(), Fail> {
-    let lawful = made(&rt, 5, &[1, 2, 0])??;
-    let unlawful = made(&rt, 7, &[1, 2, 0])??;
-    check_lock_refused(
-        &rt,
-        &unlawful,
-        &[49, 0],
-        &mut [9; 4],
-        SeatFault::WrongLength(2),
-    )?;
-    check_lock_refused(
-        &rt,
-        &unlawful,
-        &[49, 0, 0, 49],
-        &mut [9; 3],
-        SeatFault::WrongLength(4),
-    )?;
-    check_lock_refused(
-        &rt,
-        &unlawful,
-        &[49, 0, 0],
-        &mut [9; 4],
-        SeatFault::WrongLength(4),
-    )?;
-    check_lock_refused(&rt, &unlawful, &[], &mut [], SeatFault::WrongLength(0))?;
-    check_lock_refused(
-        &rt,
-        &unlawful,
-        &[49, 0, 0],
-        &mut [9; 3],
-        SeatFault::Cipher(CipherFault::UnlawfulKey(7)),
-    )?;
-    check_lock_refused(
-        &rt,
-        &lawful,
-        &[49, 0, 2147483647],
-        &mut [9; 3],
-        not_value(1, 0),
-    )?;
-    check_lock_refused(
-        &rt,
-        &lawful,
-        &[49, 2401, 2147483647],
-        &mut [9; 3],
-        not_value(2, 2147483647),
-    )
+    // The key, the deck, how many places the target has, and the fault.
+    let refused: [(u32, &[u32], usize, SeatFault); 7] = [
+        (7, &[49, 0], 4, SeatFault::WrongLength(2)),
+        (7, &[49, 0, 0, 49], 3, SeatFault::WrongLength(4)),
+        (7, &[49, 0, 0], 4, SeatFault::WrongLength(4)),
+        (7, &[], 0, SeatFault::WrongLength(0)),
+        (7, &[49, 0, 0], 3, UNLAWFUL_SEVEN),
+        (5, &[49, 0, 2147483647], 3, not_value(1, 0)),
+        (5, &[49, 2401, 2147483647], 3, not_value(2, 2147483647)),
+    ];
+    for (key, deck, places, fault) in refused {
+        assert!(rt; places <= 4);
+        let seat = made(&rt, key, &[1, 2, 0])??;
+        check_lock_refused(&rt, &seat, deck, &mut [9; 4][..places], fault)?;
+    }
+    Ok(())
 }
+
+const UNLAWFUL_SEVEN: SeatFault = SeatFault::Cipher(CipherFault::UnlawfulKey(7));
 
 fn not_value(place: usize, value: u32) -> SeatFault {
     SeatFault::Cipher(CipherFault::NotValue { place, value })
@@ -118,10 +92,7 @@ fn unlocks_refused(rt: HostRuntime) -> Result<(), Fail> {
     assert_eq!(rt; lawful.unlock(&PRIME, 282475249), Ok(49));
     for value in [0, 2147483647, 4294967295] {
         assert_eq!(rt; lawful.unlock(&PRIME, value), Err(not_value(0, value)));
-        assert_eq!(rt;
-            unlawful.unlock(&PRIME, value),
-            Err(SeatFault::Cipher(CipherFault::UnlawfulKey(7)))
-        );
+        assert_eq!(rt; unlawful.unlock(&PRIME, value), Err(UNLAWFUL_SEVEN));
     }
     Ok(())
 }
@@ -138,9 +109,16 @@ fn refusals_as_told(rt: HostRuntime) -> Result<(), Fail> {
         Refusal::with(20, 0)
     );
     assert_eq!(rt; Refusal::from(not_value(2, 9)), Refusal::with_both(5, 2, 9));
+    assert_eq!(rt; Refusal::from(UNLAWFUL_SEVEN), Refusal::with(16, 7));
+    Ok(())
+}
+
+#[test]
+fn faults_of_orders(rt: HostRuntime) -> Result<(), Fail> {
     assert_eq!(rt;
-        Refusal::from(SeatFault::Cipher(CipherFault::UnlawfulKey(7))),
-        Refusal::with(16, 7)
+        SeatFault::from(OrderFault::WrongLength(53)),
+        SeatFault::WrongLength(53)
     );
+    assert_eq!(rt; SeatFault::from(OrderFault::NotOrder), SeatFault::NotOrder);
     Ok(())
 }

@@ -61,11 +61,9 @@ fn table_of_others(rt: HostRuntime) -> Result<(), Fail> {
 #[test]
 fn one_number_too_high(rt: HostRuntime) -> Result<(), Fail> {
     let mut list: [u8; 52] = numbers();
-    list[20] = 52;
-    assert!(rt; !is_permutation(&list));
-    list[20] = 51;
-    assert!(rt; !is_permutation(&list));
-    list[20] = 20;
-    assert!(rt; is_permutation(&list));
+    for (number, is_order) in [(52, false), (51, false), (20, true)] {
+        list[20] = number;
+        assert_eq!(rt; is_permutation(&list), is_order);
+    }
     Ok(())
 }

@@ -1,16 +1,17 @@
 // Rearranging lists by orders, and what it refuses.
-use crate::lists::{check_all, numbers, values};
+use crate::lists::{check_all, numbers};
 use permutation::fault::OrderFault;
 use permutation::rearrange;
 use refusal::Refusal;
+use std::array;
 use std::process::Abort;
 use std::test::*;
 
 #[test]
 fn reversed(rt: HostRuntime) -> Result<(), Fail> {
+    let list: [u32; 52] = array::from_fn(|i| 100 + i as u32);
     for length in [0, 1, 2, 52] {
         assert!(rt; length <= 52);
-        let list: [u32; 52] = values();
         let mut order: [u8; 52] = numbers();
         check_reversed(
             &rt,
@@ -79,18 +80,20 @@ fn wrong_lengths(rt: HostRuntime) -> Result<(), Fail> {
 }
 
 // The lengths are looked at first.
+const NOT_ORDERS: [(&[u32], &[u8], OrderFault); 4] = [
+    (&[1, 2], &[0, 0], OrderFault::NotOrder),
+    (&[1, 2], &[1, 2], OrderFault::NotOrder),
+    (&[1; 52], &[0; 52], OrderFault::NotOrder),
+    (&[1; 53], &[0; 53], OrderFault::WrongLength(53)),
+];
+
 #[test]
 fn not_orders(rt: HostRuntime) -> Result<(), Fail> {
-    check_refused(&rt, &[1, 2], &[0, 0], &mut [9; 2], OrderFault::NotOrder)?;
-    check_refused(&rt, &[1, 2], &[1, 2], &mut [9; 2], OrderFault::NotOrder)?;
-    check_refused(&rt, &[1; 52], &[0; 52], &mut [9; 52], OrderFault::NotOrder)?;
-    check_refused(
-        &rt,
-        &[1; 53],
-        &[0; 53],
-        &mut [9; 53],
-        OrderFault::WrongLength(53),
-    )
+    for (list, order, fault) in NOT_ORDERS {
+        assert!(rt; list.len() <= 53);
+        check_refused(&rt, list, order, &mut [9; 53][..list.len()], fault)?;
+    }
+    Ok(())
 }
 
 fn check_refused(

@@ -1,22 +1,22 @@
 -- Why the cards that both seats open are those that the two orders, composed, tell.
-use Rattle.std.proofs.Common.{◌≡◌, ℕ, ◌<◌, ◌≤◌, Bool, true, false, cond, eqb, ltb, List, [], ◌∷◌, map, length, get_or, IfOk, Some, None, Ok, Err, Option, Result, sym, refl, ap, ◌∙◌, subst, ap₂, arith}
+use Rattle.std.proofs.Common.{◌≡◌, ℕ, ◌<◌, ◌≤◌, Bool, true, false, cond, eqb, List, [], ◌∷◌, map, length, get_or, IsOkAnd, Some, None, Ok, Err, Option, Result, sym, refl, ap, ◌∙◌, subst, ap₂, arith}
 use Rattle.std.proofs.lemmas.List.FromFn.{length-map-range_with_len, get_or-map-range_with_len}
 use Rattle.std.proofs.lemmas.List.{length-map, get_or-map}
-use Rattle.std.proofs.lemmas.Bool.{cond-true, eqb-true, lt-ltb}
+use Rattle.std.proofs.lemmas.Bool.{cond-true, eqb-true}
+use Rattle.std.proofs.lemmas.Result.{MatchResult-at_ok}
 use Rattle.cipher.specs.Cipher.{CipherMeaning, CipherLaws, Value, Lawful}
-use Rattle.std.specs.Result.{result_unwrap_or}
-use Rattle.cipher.specs.Answers.{Reads, code_answer}
-use Rattle.cipher.specs.Decks.{deck_answer}
+use Rattle.cipher.specs.Answers.{Reads}
+use Rattle.cipher.specs.Decks.{deck_answer, locked_deck}
 use Rattle.cipher.specs.declared.fault.CipherFault.{CipherFault}
 use Rattle.cipher.specs.declared.fault.CipherFault.TheVariants.{UnlawfulKey}
 use Rattle.cipher.proofs.Decks.{all_values}
 use Rattle.permutation.specs.Permutation.{upto, composed_at}
 use Rattle.permutation.proofs.Permutations.{permutes_decides, permutation_within}
 use Rattle.seat.specs.Seat.{SeatMeaning, SeatLaws}
-use Rattle.seat.specs.Answers.{raised, filled, lengths_then_key, unlock_answer}
+use Rattle.seat.specs.Answers.{raised, lengths_then_key, unlock_answer}
 use Rattle.seat.specs.declared.fault.SeatFault.{SeatFault}
 use Rattle.seat.specs.declared.fault.SeatFault.TheVariants.{WrongLength, Cipher}
-use Rattle.shuffle.specs.Shuffle.{Ready, Locked, locked_once, locked_twice, opened_answer}
+use Rattle.shuffle.specs.Shuffle.{Ready, Opens, locked_once, locked_twice, opened_answer}
 
 abbrev Answer : Type 0
 Answer = Result (Unit {0}) SeatFault
@@ -38,14 +38,14 @@ lock_of_values m key size deck target values same =
 
 -- a refusal before the rest is the whole refusal
 refused_before : (a b : Bool) (e x y : SeatFault) (rest : Answer) → ◌≡◌ {A = Answer} (Err e) (cond a (cond b (Ok tt) (Err x)) (Err y)) → ◌≡◌ {A = Answer} (Err e) (cond a (cond b rest (Err x)) (Err y))
-refused_before true true e x y rest h = let z : ◌≡◌ {A = ℕ} 0 1 = cc in absurd (omega arith)
+refused_before true true e x y rest h = cc
 refused_before true false e x y rest h = h
 refused_before false b e x y rest h = h
 
 accepted_before : (a b : Bool) (x y : SeatFault) → ◌≡◌ {A = Answer} (Ok tt) (cond a (cond b (Ok tt) (Err x)) (Err y)) → (a ≡ true) × (b ≡ true)
 accepted_before true true x y h = (refl, refl)
-accepted_before true false x y h = let z : ◌≡◌ {A = ℕ} 0 1 = cc in absurd (omega arith)
-accepted_before false b x y h = let z : ◌≡◌ {A = ℕ} 0 1 = cc in absurd (omega arith)
+accepted_before true false x y h = cc
+accepted_before false b x y h = cc
 
 -- a seat's order holds places of its deck
 order_within : (s : SeatMeaning) → SeatLaws s → (n i : ℕ) → n ≡ s.size → i < n → get_or s.order i 0 < n
@@ -57,9 +57,6 @@ module _ (m : CipherMeaning) (laws : CipherLaws m) where
 
   code_at : (n i : ℕ) → i < n → get_or (codes n) i 0 ≡ m.code i
   code_at n i h = get_or-map-range_with_len m.code 0 n i i 0 h (omega arith)
-
-  pub code_written : (c : ℕ) → c < 52 → result_unwrap_or (code_answer m c) 0 ≡ m.code c
-  code_written c h = ap (λ r. result_unwrap_or r 0) (cond-true (ltb c 52) _ _ (lt-ltb c 52 h))
 
   pub codes_length : (n : ℕ) → length (codes n) ≡ n
   codes_length n = length-map-range_with_len m.code 0 n
@@ -75,8 +72,15 @@ module _ (m : CipherMeaning) (laws : CipherLaws m) where
   reads_card c v None few is reads = absurd (reads c few (sym is))
 
   module _ (s t : SeatMeaning) where
+    -- the code of the card c under both locks
+    record Locked (c v : ℕ) : Type 0 where
+      card : c < 52
+      first_lawful : Lawful m (s.key m)
+      second_lawful : Lawful m (t.key m)
+      is : v ≡ m.lock (t.key m) (m.lock (s.key m) (m.code c))
+
     -- the first seat's lock comes off below that of the second
-    first_opens : (c v : ℕ) → Locked m s t c v → unlock_answer m s v ≡ Ok (m.lock (t.key m) (m.code c))
+    first_opens : (c v : ℕ) → Locked c v → unlock_answer m s v ≡ Ok (m.lock (t.key m) (m.code c))
     first_opens c v l =
         let coded = laws.coded c l.card in
         let once = laws.locked (s.key m) (m.code c) l.first_lawful coded in
@@ -86,27 +90,18 @@ module _ (m : CipherMeaning) (laws : CipherLaws m) where
         ∙ laws.commute _ (t.key m) _ (laws.undo_lawful (s.key m) l.first_lawful) l.second_lawful once
         ∙ ap (m.lock (t.key m)) (laws.undone (s.key m) (m.code c) l.first_lawful coded))
 
-    second_opens : (c v : ℕ) → Locked m s t c v → unlock_answer m t (m.lock (t.key m) (m.code c)) ≡ Ok (m.code c)
+    second_opens : (c v : ℕ) → Locked c v → unlock_answer m t (m.lock (t.key m) (m.code c)) ≡ Ok (m.code c)
     second_opens c v l =
         let coded = laws.coded c l.card in
         cond-true _ _ _ l.second_lawful ∙ cond-true _ _ _ (laws.locked (t.key m) (m.code c) l.second_lawful coded)
         ∙ ap Ok (laws.undone (t.key m) (m.code c) l.second_lawful coded)
 
-    shared_is : (c v shared : ℕ) → Locked m s t c v → Ok shared ≡ unlock_answer m s v → shared ≡ m.lock (t.key m) (m.code c)
-    shared_is c v shared l h = let e = h ∙ first_opens c v l in cc
-
-    second_opens_shared : (c v shared : ℕ) → Locked m s t c v → Ok shared ≡ unlock_answer m s v → unlock_answer m t shared ≡ Ok (m.code c)
-    second_opens_shared c v shared l h = ap (unlock_answer m t) (shared_is c v shared l h) ∙ second_opens c v l
-
-    pub card_read : (c v shared opened : ℕ) (r : Option ℕ) → Locked m s t c v → Ok shared ≡ unlock_answer m s v → Ok opened ≡ unlock_answer m t shared → Reads m opened r
-        → r ≡ Some c
-    card_read c v shared opened r l h h' reads =
-        let e = h' ∙ second_opens_shared c v shared l h in
-        let is : opened ≡ m.code c = cc in
-        reads_card c opened r l.card is reads
-
-    pub never_refused : (c v shared : ℕ) (e : SeatFault) → Locked m s t c v → Ok shared ≡ unlock_answer m s v → Err e ≡ unlock_answer m t shared → ⊥
-    never_refused c v shared e l h h' = let p = h' ∙ second_opens_shared c v shared l h in let z : ◌≡◌ {A = ℕ} 0 1 = cc in omega arith
+    opens_card : (c v : ℕ) (r : Result (Option ℕ) SeatFault) → Locked c v → Opens m s t v r → r ≡ Ok (Some c)
+    opens_card c v r l opens = by r (MatchResult-at_ok _ _ _ (second_opens c v l) (MatchResult-at_ok _ _ _ (first_opens c v l) opens))
+      where
+        by : (o : Result (Option ℕ) SeatFault) → IsOkAnd o (λ card. Reads m (m.code c) card) → o ≡ Ok (Some c)
+        by (Ok card) reads = ap Ok (reads_card c (m.code c) card l.card refl reads)
+        by (Err e) reads = absurd reads
 
     module _ (ls : SeatLaws s) (lt : SeatLaws t) (n : ℕ) where
       pub once_length : n ≡ s.size → length (locked_once m s n) ≡ n
@@ -130,7 +125,7 @@ module _ (m : CipherMeaning) (laws : CipherLaws m) where
       pub twice_length : Ready m s t n → length (locked_twice m s t n) ≡ n
       twice_length ready = length-map t.order _ ∙ lt.sized ∙ sym ready.second_sized
 
-      twice_at : Ready m s t n → (i : ℕ) → i < n → Locked m s t (composed_at (s.order ∷ t.order ∷ []) i) (get_or (locked_twice m s t n) i 0)
+      twice_at : Ready m s t n → (i : ℕ) → i < n → Locked (composed_at (s.order ∷ t.order ∷ []) i) (get_or (locked_twice m s t n) i 0)
       twice_at ready i h =
           let j = get_or t.order i 0 in
           let inside = order_within t lt n i ready.second_sized h in
@@ -142,10 +137,10 @@ module _ (m : CipherMeaning) (laws : CipherLaws m) where
                 ∙ ap (m.lock (t.key m)) (once_at ready.first_sized j inside);
           }
 
-      pub opened_at : (deck : List ℕ) (i : ℕ) (r : Result (Option ℕ) SeatFault) → Ready m s t n → deck ≡ locked_twice m s t n → i < n → ((c : ℕ) → Locked m s t c (get_or deck i 0) → r ≡ Ok (Some c))
+      pub opened_at : (deck : List ℕ) (i : ℕ) (r : Result (Option ℕ) SeatFault) → Ready m s t n → deck ≡ locked_twice m s t n → i < n → Opens m s t (get_or deck i 0) r
           → r ≡ Ok (Some (composed_at (s.order ∷ t.order ∷ []) i))
       opened_at deck i r ready locked h opens =
-          opens _ (subst (λ (d : List ℕ). Locked m s t (composed_at (s.order ∷ t.order ∷ []) i) (get_or d i 0)) (sym locked) (twice_at ready i h))
+          opens_card _ _ r (twice_at ready i h) (subst (λ (d : List ℕ). Opens m s t (get_or d i 0) r) locked opens)
 
       -- the first seat is handed the codes
       first_answer : n ≤ 52 → lengths_then_key m (s.key m) s.size (codes n) n ≡ sized_then_key m (s.key m) s.size n
@@ -159,16 +154,11 @@ module _ (m : CipherMeaning) (laws : CipherLaws m) where
         first_refuses e h = refused_before (eqb n s.size) (m.lawful (s.key m)) e _ _ _ (h ∙ first_answers)
 
         -- and the second what the first made of them
-        pub second_answers : (once : List ℕ) → Ok tt ≡ lengths_then_key m (s.key m) s.size deck target → once ≡ locked_once m s n
+        pub second_answers : (once : List ℕ) → Ok tt ≡ lengths_then_key m (s.key m) s.size deck target → once ≡ locked_deck m (s.key m) s.order deck
             → lengths_then_key m (t.key m) t.size once n ≡ opened_answer m s t n
         second_answers once h locked =
             let a = accepted_before (eqb n s.size) (m.lawful (s.key m)) _ _ (h ∙ first_answers) in
             let sized = eqb-true n s.size a.0 in
-            ap (λ (d : List ℕ). lengths_then_key m (t.key m) t.size d n) locked
+            ap (λ (d : List ℕ). lengths_then_key m (t.key m) t.size d n) (locked ∙ ap (locked_deck m (s.key m) s.order) coded)
             ∙ lock_of_values m (t.key m) t.size (locked_once m s n) n (once_values sized a.1) (once_length sized)
             ∙ sym (cond-true _ _ _ a.0 ∙ cond-true _ _ _ a.1)
-
--- a target that holds blanks or what was asked for, accepted
-pub filled_cases : (r : Answer) (xs wanted : List ℕ) (blank n : ℕ) → xs ≡ filled r wanted blank n → IfOk r (λ _. xs ≡ wanted)
-filled_cases (Ok u) xs wanted blank n h = h
-filled_cases (Err e) xs wanted blank n h = tt

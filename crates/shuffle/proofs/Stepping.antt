@@ -3,7 +3,6 @@ use Rattle.std.proofs.Common.{◌≡◌, ℕ, cond, List, [], ◌∷◌, map, le
 use Rattle.std.proofs.lemmas.List.FromFn.{fill_by_all}
 use Rattle.std.proofs.lemmas.Result.{MatchResult-at_ok}
 use Rattle.std.proofs.lemmas.Bool.{cond-true}
-use Rattle.std.specs.Result.{result_or}
 use Rattle.cipher.specs.Cipher.{CipherMeaning, CipherLaws}
 use Rattle.cipher.specs.Decks.{locked_deck}
 use Rattle.permutation.specs.Answer.{lengths_fit, rearrange_answer}
@@ -15,7 +14,6 @@ use Rattle.seat.specs.Seat.{SeatMeaning, SeatLaws}
 use Rattle.seat.specs.Answers.{lock_answer}
 use Rattle.seat.specs.Generator.{drawn}
 use Rattle.seat.specs.declared.fault.SeatFault.{SeatFault}
-use Rattle.seat.specs.declared.fault.SeatFault.TheVariants.{NotOrder as NoOrder}
 use Rattle.seat.specs.Generating.{generator_laws, lawful_from_lawful}
 use Rattle.shuffle.specs.Shuffle.{locked_once, locked_twice}
 use Rattle.shuffle.specs.Steps.{first_seat, second_seat, steps_of}
@@ -31,9 +29,6 @@ second_laws = generator_laws 2 5 refl
 -- a seat that is made is the one that was asked for
 pub seat_made : (s t : SeatMeaning) → ◌≡◌ {A = Result SeatMeaning SeatFault} (Ok s) (Ok t) → s ≡ t
 seat_made s t h = cc
-
-not_refused : {A E : Type 0} {r : Result A E} {e : E} {a : A} → Err e ≡ r → r ≡ Ok a → ⊥
-not_refused h h' = let z : ◌≡◌ {A = ℕ} 0 1 = cc in omega arith
 
 module _ (m : CipherMeaning) (laws : CipherLaws m) where
   first_locks : (deck : List ℕ) → deck ≡ map m.code (upto 5) → lock_answer m first_seat deck 5 ≡ Ok tt
@@ -52,11 +47,11 @@ module _ (m : CipherMeaning) (laws : CipherLaws m) where
 
   pub first_never_refuses : (s : SeatMeaning) (deck : List ℕ) (e : SeatFault) → s ≡ first_seat → deck ≡ map m.code (upto 5) → Err e ≡ lock_answer m s deck 5 → ⊥
   first_never_refuses s deck e is coded h =
-      not_refused h (ap (λ (x : SeatMeaning). lock_answer m x deck 5) is ∙ first_locks deck coded)
+      let ok = ap (λ (x : SeatMeaning). lock_answer m x deck 5) is ∙ first_locks deck coded in cc
 
   pub second_never_refuses : (t : SeatMeaning) (once : List ℕ) (e : SeatFault) → t ≡ second_seat → once ≡ locked_once m first_seat 5 → Err e ≡ lock_answer m t once 5 → ⊥
   second_never_refuses t once e is locked h =
-      not_refused h (ap (λ (x : SeatMeaning). lock_answer m x once 5) is ∙ second_locks once locked)
+      let ok = ap (λ (x : SeatMeaning). lock_answer m x once 5) is ∙ second_locks once locked in cc
 
 -- the keys and the orders that are told
 pub key_told : (m : CipherMeaning) (s t : SeatMeaning) (k : ℕ) → s ≡ t → k ≡ s.key m → k ≡ t.key m
@@ -75,14 +70,11 @@ pub twice_made : (m : CipherMeaning) (t : SeatMeaning) (once twice : List ℕ) �
 twice_made m t once twice is locked again = again ∙ ap₂ (λ (x : SeatMeaning) (d : List ℕ). locked_deck m (x.key m) x.order d) is locked
 
 module _ (first second : List ℕ) (is : first ≡ first_seat.order) (is' : second ≡ second_seat.order) where
-  rearranges : rearrange_answer (length first) second 5 ≡ Ok tt
+  pub rearranges : rearrange_answer (length first) second 5 ≡ Ok tt
   rearranges =
       ap₂ (λ (o p : List ℕ). rearrange_answer (length o) p 5) is is'
       ∙ ap₂ (λ (n k : ℕ). cond (lengths_fit n k 5) (cond (permutes second_seat.order) (Ok tt) (Err NotOrder)) (Err (WrongLength k))) first_laws.sized second_laws.sized
       ∙ cond-true _ _ _ second_laws.ordered
-
-  pub rearrange_never_refuses : (r : Result (Unit {0}) OrderFault) (e : SeatFault) → r ≡ rearrange_answer (length first) second 5 → Err e ≡ result_or r (Err NoOrder) → ⊥
-  rearrange_never_refuses r e answer h = not_refused h (ap (λ q. result_or q (Err NoOrder)) (answer ∙ rearranges))
 
   pub composed_made : (r : Result (Unit {0}) OrderFault) (target : List ℕ) → r ≡ rearrange_answer (length first) second 5
       → MatchResult r (λ _. (d : ℕ) → target ≡ rearranged d first second) (λ _. target ≡ replicate 5 255)

@@ -1,3 +1,4 @@
 -- What the contracts cite.
 pub mod Shuffle
 pub mod Steps
+pub mod Printed

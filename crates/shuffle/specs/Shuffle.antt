@@ -1,10 +1,12 @@
 -- What two seats make of a deck of codes, and what is asked of them for that.
-use Rattle.std.specs.Prelude.{◌≡◌, ℕ, ◌<◌, cond, List, map, Ok, Err, Result, ◌==◌}
+use Rattle.std.specs.Prelude.{◌≡◌, ℕ, cond, List, map, Ok, Err, Option, Result, IsOkAnd, MatchResult, ◌==◌}
+use Rattle.cipher.specs.Answers.{Reads}
 use Rattle.cipher.specs.Cipher.{CipherMeaning, Lawful}
 use Rattle.cipher.specs.Decks.{locked_deck}
 use Rattle.cipher.specs.declared.fault.CipherFault.TheVariants.{UnlawfulKey}
 use Rattle.permutation.specs.Permutation.{upto}
 use Rattle.seat.specs.Seat.{SeatMeaning}
+use Rattle.seat.specs.Answers.{unlock_answer}
 use Rattle.seat.specs.declared.fault.SeatFault.{SeatFault}
 use Rattle.seat.specs.declared.fault.SeatFault.TheVariants.{WrongLength, Cipher}
 
@@ -24,12 +26,12 @@ module _ (m : CipherMeaning) (s t : SeatMeaning) where
     pub second_sized : size ≡ t.size
     pub second_lawful : Lawful m (t.key m)
 
-  -- the code of the card c under both locks
-  pub record Locked (c v : ℕ) : Type 0 where
-    pub card : c < 52
-    pub first_lawful : Lawful m (s.key m)
-    pub second_lawful : Lawful m (t.key m)
-    pub is : v ≡ m.lock (t.key m) (m.lock (s.key m) (m.code c))
+  -- the first seat takes its lock off the value and then the second, and the card is read, or it is refused as the first refusal tells
+  abbrev pub Opens : ℕ → Result (Option ℕ) SeatFault → Type 0
+  Opens v r =
+      MatchResult (unlock_answer m s v)
+      (λ shared. MatchResult (unlock_answer m t shared) (λ code. IsOkAnd r (λ card. Reads m code card)) (λ fault. r ≡ Err fault))
+      (λ fault. r ≡ Err fault)
 
   -- refused as the first seat refuses, and then as the second
   abbrev pub opened_answer : ℕ → Result (Unit {0}) SeatFault

@@ -2,6 +2,7 @@
 #![tactic(auto)]
 
 mod opening;
+mod shown;
 mod steps;
 
 use binary::BinaryField;
@@ -10,7 +11,7 @@ use power::power_cipher::PowerCipher;
 use prime::PrimeField;
 use refusal::Refusal;
 use std::io;
-use steps::{SIZE, Steps, shuffle_twice};
+use steps::{SIZE, shuffle_twice};
 
 fn main(rt: HostRuntime) -> io::Result<()> {
     show_shuffle(&rt, "prime", &PowerCipher { field: PrimeField })?;
@@ -20,36 +21,7 @@ fn main(rt: HostRuntime) -> io::Result<()> {
 fn show_shuffle<C: Cipher>(rt: &HostRuntime, field: &str, cipher: &C) -> io::Result<()> {
     println!(rt; "Two seats lock and shuffle {SIZE} cards over the {field} field.")?;
     match shuffle_twice(cipher) {
-        Ok(steps) => show_steps(rt, &steps),
+        Ok(steps) => println!(rt; "{steps}"),
         Err(fault) => println!(rt; "  That is {}.", Refusal::from(fault)),
     }
-}
-
-fn show_steps(rt: &HostRuntime, steps: &Steps) -> io::Result<()> {
-    let last = SIZE - 1;
-    let alike = if steps.cards == steps.composed {
-        "the same"
-    } else {
-        "not the same"
-    };
-    println!(rt;
-        "  Seat 0 has key {} and order {:?}.",
-        steps.keys.0, steps.orders.0
-    )?;
-    println!(rt;
-        "  Seat 1 has key {} and order {:?}.",
-        steps.keys.1, steps.orders.1
-    )?;
-    println!(rt; "  The codes of cards 0 to {last} are {:?}.", steps.codes)?;
-    println!(rt;
-        "  Seat 0 puts them in its order and locks them: {:?}.",
-        steps.once
-    )?;
-    println!(rt; "  Seat 1 does so with that deck: {:?}.", steps.twice)?;
-    println!(rt; "  At every place seat 0 takes its lock off, and then seat 1 does.")?;
-    println!(rt; "  The cards that are read there are {:?}.", steps.cards)?;
-    println!(rt;
-        "  Seat 0's order, rearranged by seat 1's, is {:?}: {alike}.",
-        steps.composed
-    )
 }

@@ -44,7 +44,7 @@ pub fn shuffle_twice<C: Cipher>(cipher: &C) -> Result<Steps, SeatFault>
     let mut cards = [0; SIZE];
     opened_cards(cipher, &first, &second, &mut cards)?;
     let mut composed = [0; SIZE];
-    rearrange(&orders.0, &orders.1, &mut composed).or(Err(SeatFault::NotOrder))?;
+    rearrange(&orders.0, &orders.1, &mut composed)?;
     Ok(Steps {
         keys: (first.key(cipher), second.key(cipher)),
         orders,

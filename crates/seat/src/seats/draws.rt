@@ -10,6 +10,9 @@ const FACTOR: u64 = 16807;
 
 const MODULUS: u64 = 2147483647;
 
+// The largest start. From 1 to it, no start draws 0.
+pub(crate) const LAST_START: u32 = (MODULUS - 1) as u32;
+
 // The number drawn after z.
 pub(crate) fn drawn_after(z: u32) -> u32
     ensures { result ≡ drawn z }
@@ -23,20 +26,18 @@ pub(crate) fn next_lawful<C: Cipher>(cipher: &C, first: u32) -> u32
     ensures lawful { Lawful (C.Cipher.meaning cipher.now) result }
 {
     let last = cipher.last_key();
-    let mut key = if first > last { 1 } else { first };
-    while !cipher.is_lawful(key) {
-        key += 1;
-    }
-    key
+    let first = if first > last { 1 } else { first };
+    (first..last)
+        .find(|key| cipher.is_lawful(*key))
+        .unwrap_or(last)
 }
 
 // Fills the order with its own places, and shuffles it by the numbers drawn after z.
-pub(crate) fn shuffle(z: u32, order: &mut [u8])
+pub(crate) fn shuffle(mut z: u32, order: &mut [u8])
     requires { length order.old ≤ 52 }
     ensures { order.new ≡ shuffled (length order.old - 1) z (upto (length order.old)) }
 {
     number_places(order);
-    let mut z = z;
     for i in (1..order.len()).rev() {
         z = drawn_after(z);
         order.swap(i, z as usize % (i + 1));

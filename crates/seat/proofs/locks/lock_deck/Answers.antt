@@ -1,28 +1,18 @@
-use Rattle.std.proofs.Common.{map, length, sym, ap, ◌∙◌}
+use Rattle.std.proofs.Common.{◌≡◌, Ok, map, length, ap, ◌∙◌, rules}
 use Rattle.cipher.specs.Decks.{deck_answer}
 use Rattle.permutation.proofs.Permutations.{permutes_decides}
-use Rattle.seat.proofs.Locking.{accepted, rearranges, rearranged_values, locked_rearranged, filled_ok}
+use Rattle.seat.proofs.Locking.{rearranged_values, locked_rearranged}
 use Rattle.seat.proofs.locks.lock_deck.Goals as goal
 
-pub lock_each-requires : goal.lock_each-requires
-lock_each-requires g c =
+pub lock_each-requires-clause-values : goal.lock_each-requires-clause-values
+lock_each-requires-clause-values g c =
     let m = g.C.Cipher.meaning c.args.cipher.now in
-    let a = accepted m c.args.key (length c.args.order.now) c.args.deck.now (length c.args.target.now) (sym c.check_lock-answer.ensures ∙ c.in-Ok.is) in
-    let moved = rearranges m c.args.key c.args.deck.now c.args.order.now c.rearrange.new.target (length c.args.target.now) c.rearrange.result
-    c.requires.few c.requires.ordered a c.rearrange.ensures.answer c.rearrange.ensures.written in
-    record {
-      lawful = a.lawful;
-      values = ap (deck_answer m 0) moved ∙ rearranged_values m c.args.deck.now c.args.order.now (sym a.deck_sized) ((permutes_decides c.args.order.now).0 c.requires.ordered) a.values;
-    }
+    let sized : length c.args.order.now ≡ length c.args.deck.now = search rules in
+    let values : deck_answer m 0 c.args.deck.now ≡ Ok tt = search rules in
+    ap (deck_answer m 0) (c.in_ok-rearrange.ensures.written 0)
+    ∙ rearranged_values m c.args.deck.now c.args.order.now sized ((permutes_decides c.args.order.now).0 c.requires.ordered) values
 
-pub returns-in-Ok : goal.returns-in-Ok
-returns-in-Ok g c =
+pub returns-clause-written : goal.returns-clause-written
+returns-clause-written g c =
     let m = g.C.Cipher.meaning c.args.cipher.now in
-    let a = accepted m c.args.key (length c.args.order.now) c.args.deck.now (length c.args.target.now) (sym c.check_lock-answer.ensures ∙ c.in-Ok.is) in
-    let moved = rearranges m c.args.key c.args.deck.now c.args.order.now c.rearrange.new.target (length c.args.target.now) c.rearrange.result
-    c.requires.few c.requires.ordered a c.rearrange.ensures.answer c.rearrange.ensures.written in
-    record {
-      answer = c.check_lock-answer.ensures;
-      written = filled_ok c.check_lock-answer.result c.lock_each.new.deck _ 0 _ c.in-Ok.is
-          (c.lock_each.ensures ∙ ap (map (m.lock c.args.key)) moved ∙ locked_rearranged m c.args.key c.args.deck.now c.args.order.now);
-    }
+    c.lock_each.ensures ∙ ap (map (m.lock c.args.key)) (c.in_ok-rearrange.ensures.written 0) ∙ locked_rearranged m c.args.key c.args.deck.now c.args.order.now

@@ -2,7 +2,7 @@
 use Rattle.std.proofs.Common.{Ok, ap}
 use Rattle.seat.specs.Kinds.{generator_meaning}
 use Rattle.shuffle.specs.Steps.{first_seat, second_seat}
-use Rattle.shuffle.proofs.Stepping.{seat_made, first_never_refuses, second_never_refuses, rearrange_never_refuses, once_made, twice_made, composed_made, key_told, order_told, cards_opened, all_steps}
+use Rattle.shuffle.proofs.Stepping.{seat_made, first_never_refuses, second_never_refuses, rearranges, once_made, twice_made, composed_made, key_told, order_told, cards_opened, all_steps}
 use Rattle.shuffle.proofs.steps.shuffle_twice.Goals as goal
 
 pub returns-in_err-lock : goal.returns-in_err-lock
@@ -18,13 +18,15 @@ returns-in_err-lock-2 g c =
     let once = once_made m first c.write_codes.new.deck c.lock.new.target (seat_made first first_seat c.in_ok-first.ensures) c.write_codes.ensures c.in_ok-lock.ensures.written in
     absurd (second_never_refuses m (g.met.C.Cipher.lawful c.args.cipher.now) second c.lock.new.target _ (seat_made second second_seat c.in_ok-second.ensures) once c.in_err-lock-2.ensures.answer)
 
-pub returns-in_err-or : goal.returns-in_err-or
-returns-in_err-or g c =
+pub returns-in_err-rearrange : goal.returns-in_err-rearrange
+returns-in_err-rearrange g c =
     let first = generator_meaning c.in_ok-first.first in
     let second = generator_meaning c.in_ok-second.second in
     let told = order_told first first_seat c.order.new.target (seat_made first first_seat c.in_ok-first.ensures) c.in_ok-order.ensures.written in
     let told' = order_told second second_seat c.order-2.new.target (seat_made second second_seat c.in_ok-second.ensures) c.in_ok-order-2.ensures.written in
-    absurd (rearrange_never_refuses c.order.new.target c.order-2.new.target told told' c.rearrange.result _ c.rearrange.ensures.answer c.in_err-or.ensures)
+    let ok = rearranges c.order.new.target c.order-2.new.target told told' in
+    let was = c.in_err-rearrange.was in
+    cc
 
 pub returns : goal.returns
 returns g c =

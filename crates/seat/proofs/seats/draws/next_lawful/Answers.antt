@@ -1,26 +1,18 @@
-use Rattle.std.proofs.Common.{sym, ◌∙◌, arith}
-use Rattle.seat.specs.Generating.{climbed_here, climbed_on, below_last}
+use Rattle.std.proofs.Common.{◌≡◌, ◌-◌, ◌∙◌, true, false, cond, nat_lt, sym, ap₂, rules, tests, arith}
+use Rattle.std.proofs.lemmas.Iterator.{first_from_Range}
+use Rattle.seat.specs.Generator.{climbed}
+use Rattle.seat.specs.Generating.{climbed_first, start_most}
 use Rattle.seat.proofs.seats.draws.next_lawful.Goals as goal
 
-pub overflow_add-key : goal.overflow_add-key
-overflow_add-key g c =
-    let laws = g.met.C.Cipher.lawful c.args.cipher.now in
-    record { fits = omega (arith, laws.last_fits, below_last _ laws c.loop-key.key c.loop-key.invariant.0 (sym c.loop-key-test.ensures)) }
-
-pub loop-key-smaller : goal.loop-key-smaller
-loop-key-smaller g c =
-    let laws = g.met.C.Cipher.lawful c.args.cipher.now in
-    omega (arith, c.last_key-last.ensures, below_last _ laws c.loop-key.key c.loop-key.invariant.0 (sym c.loop-key-test.ensures))
-
-pub loop-key-preserved : goal.loop-key-preserved
-loop-key-preserved g c =
+pub returns-clause-meant : goal.returns-clause-meant
+returns-clause-meant g c =
     let m = g.C.Cipher.meaning c.args.cipher.now in
-    let laws = g.met.C.Cipher.lawful c.args.cipher.now in
-    let less = below_last m laws c.loop-key.key c.loop-key.invariant.0 (sym c.loop-key-test.ensures) in
-    (omega arith, sym (climbed_on m.lawful m.last_key c.loop-key.key less (sym c.loop-key-test.ensures)) ∙ c.loop-key.invariant.1)
-
-pub returns : goal.returns
-returns g c =
-    let m = g.C.Cipher.meaning c.args.cipher.now in
-    let passes = sym c.loop-key-test.ensures in
-    record { meant = sym (climbed_here m.lawful _ c.loop-key.key passes) ∙ c.loop-key.invariant.1; lawful = passes }
+    let first = c.if-first-last.first in
+    let start : first ≡ cond (nat_lt m.last_key c.args.first) 1 c.args.first = grind (arith, tests) in
+    let found =
+    first_from_Range _ _ _ c.find.result (λ i. m.lawful i ≡ true) (λ i. m.lawful i ≡ false) c.find.ensures.ran
+    (λ x q k. search rules)
+    (λ x q k. (search rules, search rules)) in
+    c.unwrap_or.ensures
+    ∙ sym (climbed_first m.lawful first c.last_key-last.result c.find.result (omega (arith, start_most m (g.met.C.Cipher.lawful c.args.cipher.now) c.args.first)) found)
+    ∙ ap₂ (λ k last. climbed m.lawful (last - k) k) start c.last_key-last.ensures
