@@ -11,7 +11,7 @@ use std::alloc::Global;
 use table::call::Call;
 use table::fault::TableFault;
 use table::table::Table;
-use verdict::{Verdict, audit};
+use verdict::{Finding, audit};
 
 // A call of a list: one that makes a move, or an audit.
 #[derive(Drop)]
@@ -29,11 +29,11 @@ pub struct Script {
 }
 
 // What a call answered: the number of the entry that it made or of the phase that it began, or
-// what the audit found.
+// what the audit found, which is none in a clean hand.
 #[derive(Clone, Copy, PartialEq, Eq, Debug)]
 pub enum Reply {
     Entered(usize),
-    Audited(Verdict),
+    Audited(Option<Finding>),
 }
 
 // What the calls of a script answered; no table could be had where it is refused.
