@@ -44,8 +44,8 @@ fn answer<C: Cipher>(table: &mut Table, cipher: &C, step: &Step) -> Result<Reply
     ensures made { state_of table.new ≡ step_after (C.Cipher.meaning cipher.now) (state_of table.old) (asked_by step.now) }
 {
     match step {
-        Step::Move(call) => Ok(Reply::Entered(table.make(cipher, call)?)),
-        Step::Audit => Ok(Reply::Audited(audit(table, cipher)?)),
+        Step::Move(call) => table.make(cipher, call).map(Reply::Entered),
+        Step::Audit => audit(table, cipher).map(Reply::Audited),
     }
 }
 

@@ -46,7 +46,7 @@ impl<C: Cipher> Hearing<'_, C> {
     pub(crate) fn first_finding(&self) -> Option<Finding>
         ensures { result ≡ verdict (C.Cipher.meaning self.now.cipher.now) self.now.record.now.cards (told_of (state_of_record self.now.record.now)) (log_of (state_of_record self.now.record.now)) }
     {
-        let mut so_far = Progress::start();
+        let mut so_far = Progress::default();
         for event in self.record.moves.iter() {
             if let Some(found) = self.finding(so_far, *event) {
                 return Some(found);

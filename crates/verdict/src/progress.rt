@@ -1,13 +1,13 @@
 // How far an audit has come through the moves.
 ghost use Rattle.std.specs.Prelude.{◌≡◌, ◌<◌};
 ghost use Rattle.table.specs.Model.{state_of_record};
-ghost use Rattle.verdict.specs.Forward.{start, progress_after};
+ghost use Rattle.verdict.specs.Forward.{progress_after};
 
 use crate::hearing::Hearing;
 use cipher::Cipher;
 use table::record::Event;
 
-#[derive(Clone, Copy)]
+#[derive(Clone, Copy, Default)]
 pub(crate) struct Progress {
     pub(crate) entries: usize,
     pub(crate) locks: u16,
@@ -16,16 +16,6 @@ pub(crate) struct Progress {
 }
 
 impl Progress {
-    pub(crate) fn start() -> Progress
-        ensures { result ≡ start }
-    {
-        Progress {
-            entries: 0,
-            locks: 0,
-            value: 0,
-        }
-    }
-
     // With one event more behind it. A close makes no entry.
     pub(crate) fn after<C: Cipher>(self, hearing: &Hearing<C>, event: Event) -> Progress
         requires entries { self.entries < 486 }
