@@ -10,10 +10,10 @@ use table::call::Call;
 use table::fault::TableFault;
 
 #[derive(Clone, Copy)]
-struct ShownCall<'a>(&'a Call);
+struct PrintedCall<'a>(&'a Call);
 
-impl fmt::Display for ShownCall<'_> {
-    ghost output = { λ shown. call_printed shown.0.now };
+impl fmt::Display for PrintedCall<'_> {
+    ghost output = { λ printed. call_printed printed.0.now };
 
     fn fmt<W: fmt::Write>(&self, f: &mut fmt::Formatter<W>) -> fmt::Result {
         match self.0 {
@@ -31,14 +31,14 @@ impl fmt::Display for ShownCall<'_> {
 }
 
 #[derive(Clone, Copy)]
-struct ShownStep<'a>(&'a Step);
+struct PrintedStep<'a>(&'a Step);
 
-impl fmt::Display for ShownStep<'_> {
-    ghost output = { λ shown. step_printed shown.0.now };
+impl fmt::Display for PrintedStep<'_> {
+    ghost output = { λ printed. step_printed printed.0.now };
 
     fn fmt<W: fmt::Write>(&self, f: &mut fmt::Formatter<W>) -> fmt::Result {
         match self.0 {
-            Step::Move(call) => write!(f, "{}", ShownCall(call)),
+            Step::Move(call) => write!(f, "{}", PrintedCall(call)),
             Step::Audit => f.write_str("Audit"),
         }
     }
@@ -46,13 +46,13 @@ impl fmt::Display for ShownStep<'_> {
 
 // What a step answered. A close is answered by the phase that it began.
 #[derive(Clone, Copy)]
-struct ShownReply<'a> {
+struct PrintedReply<'a> {
     step: &'a Step,
     reply: &'a Result<Reply, TableFault>,
 }
 
-impl fmt::Display for ShownReply<'_> {
-    ghost output = { λ shown. Some (reply_printed shown.step.now shown.reply.now) };
+impl fmt::Display for PrintedReply<'_> {
+    ghost output = { λ printed. Some (reply_printed printed.step.now printed.reply.now) };
 
     fn fmt<W: fmt::Write>(&self, f: &mut fmt::Formatter<W>) -> fmt::Result {
         match (self.step, self.reply) {
@@ -77,6 +77,11 @@ impl fmt::Display for Line<'_> {
 
     fn fmt<W: fmt::Write>(&self, f: &mut fmt::Formatter<W>) -> fmt::Result {
         let Line { step, reply } = *self;
-        write!(f, "{}: {}.", ShownStep(step), ShownReply { step, reply })
+        write!(
+            f,
+            "{}: {}.",
+            PrintedStep(step),
+            PrintedReply { step, reply }
+        )
     }
 }
