@@ -1,5 +1,5 @@
 -- Logs whose moves were all accepted, and what each acceptance tells.
-use Rattle.std.proofs.Common.{◌≡◌, ℕ, ◌<◌, ◌≤◌, Bool, true, false, not, eqb, ltb, leb, List, [], ◌∷◌, length, Ok, Err, Result, refl}
+use Rattle.std.proofs.Common.{◌≡◌, ℕ, ◌<◌, ◌≤◌, Bool, true, false, cond, not, eqb, ltb, leb, List, [], ◌∷◌, length, Ok, Err, Result, sym, refl, ap, ◌∙◌}
 use Rattle.std.proofs.lemmas.Bool.{eqb-true, eqb-false, ltb-true, leb-true, not-true, and_parts}
 use Rattle.cipher.specs.Cipher.{CipherMeaning}
 use Rattle.cipher.specs.Decks.{deck_answer}
@@ -40,23 +40,18 @@ seated_passed s (Ok tt) then a h = (refl, h)
 seated_passed s (Err fault) then a h = (cc, cc)
 
 -- the phase of a number
+phase_at : ℕ → Phase
+phase_at n = cond (eqb n 0) Locking (cond (eqb n 1) Dealing (cond (eqb n 2) Showdown Audit))
+
+phase_back : (p : Phase) → p ≡ phase_at (phase_number p)
+unfolding phase_at
+phase_back Locking = refl
+phase_back Dealing = refl
+phase_back Showdown = refl
+phase_back Audit = refl
+
 phase_is : (p q : Phase) → eqb (phase_number p) (phase_number q) ≡ true → p ≡ q
-phase_is Locking Locking h = refl
-phase_is Locking Dealing h = cc
-phase_is Locking Showdown h = cc
-phase_is Locking Audit h = cc
-phase_is Dealing Locking h = cc
-phase_is Dealing Dealing h = refl
-phase_is Dealing Showdown h = cc
-phase_is Dealing Audit h = cc
-phase_is Showdown Locking h = cc
-phase_is Showdown Dealing h = cc
-phase_is Showdown Showdown h = refl
-phase_is Showdown Audit h = cc
-phase_is Audit Locking h = cc
-phase_is Audit Dealing h = cc
-phase_is Audit Showdown h = cc
-phase_is Audit Audit h = refl
+phase_is p q h = phase_back p ∙ ap phase_at (eqb-true _ _ h) ∙ sym (phase_back q)
 
 -- the checks that an accepted move has passed
 module _ (m : CipherMeaning) (v : View) where

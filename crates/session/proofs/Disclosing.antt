@@ -1,9 +1,10 @@
 -- The disclosures of the table that a log leads to are those of the log.
-use Rattle.std.proofs.Common.{◌≡◌, ℕ, suc, ◌+◌, ◌*◌, ◌<◌, Bool, true, false, cond, not, ◌||◌, eqb, List, [], ◌∷◌, ◌++◌, length, get_or, sym, refl, ap, ◌∙◌, subst, ap₂, inl, inr, mul-le-mul_right, suc-mul, arith, length-append}
+use Rattle.std.proofs.Common.{◌≡◌, ℕ, suc, ◌*◌, ◌<◌, Bool, true, false, not, ◌||◌, eqb, List, [], ◌∷◌, ◌++◌, length, get_or, sym, refl, ap, ◌∙◌, subst, ap₂, inl, inr, mul-le-mul_right, suc-mul, arith, length-append}
 use lib.ListN.{get_or-append}
-use Rattle.std.proofs.lemmas.Bool.{eqb-true, cases_Bool, cond-true, cond-false, or_parts, not_from_true, not_from_false, true≢false}
+use Rattle.std.proofs.lemmas.Bool.{eqb-true, eq-eqb, ne_eqb, cases_Bool, cond-true, cond-false, or_parts, not_from_true, not_from_false, true≢false}
 use Rattle.std.proofs.lemmas.List.{get_or_past, get_or_push, length_push}
 use Rattle.std.specs.List.{prefix_len}
+use Rattle.std.proofs.lemmas.List.Folds.{position_or_len_push}
 use Rattle.cipher.specs.Cipher.{CipherMeaning}
 use Rattle.table.specs.State.{lock, draw, share, abandon, close, show, disclose}
 use Rattle.table.specs.Rules.{some, has_disclosed}
@@ -37,18 +38,14 @@ module _ {A : Type 0} (test : A → Bool) where
 
   -- one that was found stays where it is
   place_stays : (xs : List A) (y : A) → some test xs ≡ true → place (xs ++ (y ∷ [])) ≡ place xs
-  place_stays [] y found = absurd (true≢false (sym found))
-  place_stays (x ∷ xs) y found =
-      elim (cases_Bool (test x)) [
-        | inl is ↦ cond-false _ _ _ (not_from_true (test x) is) ∙ sym (cond-false _ _ _ (not_from_true (test x) is))
-        | inr other ↦ ap (λ (n : ℕ). cond (not (test x)) (1 + n) 0) (place_stays xs y (sym (ap (λ (b : Bool). b || some test xs) other) ∙ found))
-      ]
+  place_stays xs y found =
+      position_or_len_push test xs y ∙ cond-false _ _ _ (ne_eqb (place xs) (length xs) (λ e. omega (arith, e, place_below xs found)))
 
   place_new : (xs : List A) (y : A) → some test xs ≡ false → test y ≡ true → place (xs ++ (y ∷ [])) ≡ length xs
-  place_new [] y none is = cond-false _ _ _ (not_from_true (test y) is)
-  place_new (x ∷ xs) y none is =
-      let parts = or_parts (test x) (some test xs) none in
-      cond-true _ _ _ (not_from_false (test x) parts.0) ∙ omega (arith, place_new xs y parts.1 is)
+  place_new xs y none is =
+      position_or_len_push test xs y
+      ∙ cond-true _ _ _ (eq-eqb (place xs) (length xs) (place_none xs none))
+      ∙ omega (arith, cond-true {A = ℕ} (test y) 0 1 is)
 
   place_still_none : (xs : List A) (y : A) → some test xs ≡ false → test y ≡ false → place (xs ++ (y ∷ [])) ≡ suc (length xs)
   place_still_none xs y none other =

@@ -1,6 +1,7 @@
 -- The draws of the table that a log leads to are those of the log.
 use Rattle.std.proofs.Common.{◌≡◌, ℕ, zero, suc, ◌+◌, ◌-◌, ◌*◌, ◌<◌, ◌≤◌, Bool, true, false, cond, ◌||◌, eqb, List, [], ◌∷◌, ◌++◌, length, get_or, set, replicate, sym, refl, ap, ◌∙◌, subst, ap₂, inl, inr, arith, length-set}
-use Rattle.std.proofs.lemmas.Bool.{eqb-true, eqb-false, eq-eqb, ne_eqb, cases_Bool, cond-true, cond-false, cases_lt, true≢false}
+use Rattle.std.proofs.lemmas.Bool.{eqb-true, eqb-false, cases_Bool, cond-true, cond-false, cases_lt, true≢false}
+use Rattle.std.proofs.lemmas.Bool.Decides.{nat_tests}
 use Rattle.std.proofs.lemmas.List.{get_or_past}
 use Rattle.cipher.specs.Cipher.{CipherMeaning}
 use Rattle.table.specs.State.{Move, lock, draw, share, abandon, close, show, disclose, draw_at, last_draw, no_draw, begun, shared_by, abandoned, revealed, is_running, is_dealt}
@@ -58,11 +59,7 @@ cond_shown true x y is = is
 cond_shown false x y is = refl
 
 eqb_swap : (a b : ℕ) → eqb a b ≡ eqb b a
-eqb_swap a b =
-    elim (cases_Bool (eqb a b)) [
-      | inl is ↦ is ∙ sym (eq-eqb b a (sym (eqb-true a b is)))
-      | inr other ↦ other ∙ sym (ne_eqb b a (λ is. eqb-false a b other (sym is)))
-    ]
+eqb_swap a b = grind (arith, nat_tests)
 
 module _ (d : Drawn) (v : ℕ) (r : DrawRecord) (h : Records d v r) where
   records_share : (S seats s w : ℕ) → seats ≡ S → s < 8 → Records (with_share S s d) w (shared_by seats s w r)

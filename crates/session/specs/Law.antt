@@ -1,13 +1,12 @@
 -- The law over whole runs: what holds of the entries of any list of calls, and of any two.
-use Rattle.std.specs.Prelude.{◌≡◌, ℕ, ◌<◌, ◌≤◌, true, false, cond, List, [], ◌∷◌, ◌++◌, map, take, Ok, ◌==◌, ◌≢◌}
+use Rattle.std.specs.Prelude.{◌≡◌, ℕ, ◌<◌, ◌≤◌, true, false, cond, List, [], ◌∷◌, ◌++◌, map, take, Ok, None, ◌==◌, ◌≢◌}
 use Rattle.cipher.specs.Cipher.{CipherMeaning}
 use Rattle.permutation.specs.Permutation.{count, upto, composed_at}
 use Rattle.table.specs.State.{Move, show}
 use Rattle.table.specs.Rules.{some, within_limits}
 use Rattle.verdict.specs.Log.{Log, draws, entries, drawn, secret, discloses_seat}
-use Rattle.verdict.specs.Honesty.{Told, first_deck, told_by, honest, accused}
+use Rattle.verdict.specs.Honesty.{Told, first_deck, told_by, honest, accused, dishonest}
 use Rattle.verdict.specs.declared.Kind.{Kind}
-use Rattle.verdict.specs.declared.Verdict.TheVariants.{Clean, Dishonest}
 use Rattle.session.specs.Runs.{Asked, audit, answer, accepted}
 use Rattle.session.specs.declared.Reply.TheVariants.{Audited}
 
@@ -39,7 +38,7 @@ module _ (m : CipherMeaning) (S D : ℕ) (log : Log) where
     pub not_honest : honest m D told before x ≡ false
     pub none_earlier : AllHonest m D told before
     pub numbered : entry ≡ entries before
-    pub named : accused m D told entry x ≡ Dishonest entry seat kind
+    pub named : accused m D told entry x ≡ dishonest entry seat kind
 
   -- the card that the composed order holds at a place: o(0)(o(1)(… o(S - 1)(place) …))
   abbrev pub held : ℕ → ℕ
@@ -60,10 +59,10 @@ module _ (m : CipherMeaning) (S D : ℕ) (log : Log) where
     pub shared_whole : (d c : ℕ) → Shown d c → (s : ℕ) → s < S → count s (drawn S d log).sharers ≡ cond (s == (drawn S d log).drawer) 0 1
     pub shared_once : (d s : ℕ) → count s (drawn S d log).sharers ≤ 1
     -- once all seats have disclosed, the audit is clean exactly when every entry is honest, and else names the first that is not
-    pub clean_honest : AllDisclosed → answer m S D log audit ≡ Ok (Audited Clean) → AllHonest m D told log
-    pub honest_clean : AllDisclosed → AllHonest m D told log → answer m S D log audit ≡ Ok (Audited Clean)
-    pub else_named : AllDisclosed → (answer m S D log audit ≢ Ok (Audited Clean))
-        → (entry : ℕ) × (seat : ℕ) × (kind : Kind) × (answer m S D log audit ≡ Ok (Audited (Dishonest entry seat kind))) × FirstDishonest entry seat kind
+    pub clean_honest : AllDisclosed → answer m S D log audit ≡ Ok (Audited None) → AllHonest m D told log
+    pub honest_clean : AllDisclosed → AllHonest m D told log → answer m S D log audit ≡ Ok (Audited None)
+    pub else_named : AllDisclosed → (answer m S D log audit ≢ Ok (Audited None))
+        → (entry : ℕ) × (seat : ℕ) × (kind : Kind) × (answer m S D log audit ≡ Ok (Audited (dishonest entry seat kind))) × FirstDishonest entry seat kind
 
 -- cards shown at two clean tables, or at one, are equal exactly when those held at the places drawn are
 module _ (m : CipherMeaning) (S D : ℕ) (log : Log) (m' : CipherMeaning) (S' D' : ℕ) (log' : Log) where

@@ -11,7 +11,7 @@ use std::alloc::Global;
 use table::call::Call;
 use table::fault::TableFault;
 use table::table::Table;
-use verdict::{Verdict, audit};
+use verdict::{Finding, audit};
 
 // A call of a list: one that makes a move, or an audit.
 #[derive(Drop)]
@@ -29,11 +29,11 @@ pub struct Script {
 }
 
 // What a call answered: the number of the entry that it made or of the phase that it began, or
-// what the audit found.
+// what the audit found, which is none in a clean hand.
 #[derive(Clone, Copy, PartialEq, Eq, Debug)]
 pub enum Reply {
     Entered(usize),
-    Audited(Verdict),
+    Audited(Option<Finding>),
 }
 
 // What the calls of a script answered; no table could be had where it is refused.
@@ -44,8 +44,8 @@ fn answer<C: Cipher>(table: &mut Table, cipher: &C, step: &Step) -> Result<Reply
     ensures made { state_of table.new ≡ step_after (C.Cipher.meaning cipher.now) (state_of table.old) (asked_by step.now) }
 {
     match step {
-        Step::Move(call) => Ok(Reply::Entered(table.make(cipher, call)?)),
-        Step::Audit => Ok(Reply::Audited(audit(table, cipher)?)),
+        Step::Move(call) => table.make(cipher, call).map(Reply::Entered),
+        Step::Audit => audit(table, cipher).map(Reply::Audited),
     }
 }
 

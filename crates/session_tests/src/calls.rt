@@ -10,7 +10,7 @@ use std::process::Abort;
 use std::test::Fail;
 use table::call::Call;
 use table::fault::TableFault;
-use verdict::{Kind, Verdict};
+use verdict::{Finding, Kind};
 
 pub const PRIME: PowerCipher<PrimeField> = PowerCipher { field: PrimeField };
 
@@ -28,18 +28,31 @@ pub enum Ask {
     Audit,
 }
 
-// The number of an entry or a phase, what an audit finds, or a refusal with its values.
-#[derive(Clone, Copy)]
-pub enum Told {
-    Entered(usize),
-    Clean,
-    Bad(usize, u8, Kind),
-    No(u8),
-    With(u8, u64),
-    Both(u8, u64, u64),
+// What a call should answer.
+pub type Due = Result<Reply, Refusal>;
+
+pub const FIRST_LOCK: Finding = Finding {
+    entry: 0,
+    seat: 0,
+    kind: Kind::Lock,
+};
+
+// Functions make these refusals too, but a static can call none.
+macro_rules! refused {
+    ($number:expr) => {
+        Err(Refusal { number: $number, first: None, second: None })
+    };
+    ($number:expr, $value:expr) => {
+        Err(Refusal { number: $number, first: Some($value), second: None })
+    };
+    ($number:expr, $first:expr, $second:expr) => {
+        Err(Refusal { number: $number, first: Some($first), second: Some($second) })
+    };
 }
 
-pub fn asked(heap: Global, ask: Ask) -> Result<Step, Fail> {
+pub(crate) use refused;
+
+fn asked(heap: Global, ask: Ask) -> Result<Step, AllocError> {
     Ok(Step::Move(match ask {
         Ask::Lock(seat, deck) => Call::Lock {
             seat,
@@ -59,39 +72,19 @@ pub fn asked(heap: Global, ask: Ask) -> Result<Step, Fail> {
     }))
 }
 
-fn due(told: Told) -> Result<Reply, Refusal> {
-    match told {
-        Told::Entered(number) => Ok(Reply::Entered(number)),
-        Told::Clean => Ok(Reply::Audited(Verdict::Clean)),
-        Told::Bad(entry, seat, kind) => {
-            Ok(Reply::Audited(Verdict::Dishonest { entry, seat, kind }))
-        }
-        Told::No(number) => Err(Refusal::alone(number)),
-        Told::With(number, value) => Err(Refusal::with(number, value)),
-        Told::Both(number, first, second) => Err(Refusal::with_both(number, first, second)),
-    }
-}
-
 // What a call answers; a failure tells the call's number.
-pub fn check_reply(
-    rt: &impl Abort,
-    number: usize,
-    reply: Result<Reply, TableFault>,
-    told: Told,
-) -> Result<(), Fail> {
-    assert_eq!(rt; reply.map_err(Refusal::from), due(told), "call {number}");
-    Ok(())
+pub fn check_reply(rt: &impl Abort, number: usize, reply: Result<Reply, TableFault>, due: Due) {
+    assert_eq!(rt; reply.map_err(Refusal::from), due, "call {number}");
 }
 
-pub fn script(heap: Global, size: (u8, u8), list: &[(Ask, Told)]) -> Result<Script, Fail> {
-    let mut steps = Vec::new(heap);
-    for (ask, _) in list {
-        push(&mut steps, asked(heap, *ask)?)?;
-    }
+pub fn script(heap: Global, size: (u8, u8), list: &[(Ask, Due)]) -> Result<Script, Fail> {
     Ok(Script {
         seats: size.0,
         cards: size.1,
-        steps,
+        steps: list
+            .iter()
+            .map(|(ask, _)| asked(heap, *ask))
+            .try_collect(heap)?,
     })
 }
 
@@ -101,29 +94,17 @@ pub fn push(steps: &mut Vec<Step>, step: Step) -> Result<(), AllocError> {
     Ok(())
 }
 
-fn check_replies(
-    rt: &impl Abort,
-    replies: &[Result<Reply, TableFault>],
-    list: &[(Ask, Told)],
-) -> Result<(), Fail> {
-    let mut number = 0usize;
-    for (_, told) in list {
-        let reply = replies.get(number).copied().ok_or("no reply")?;
-        check_reply(rt, number, reply, *told)?;
-        number = number.wrapping_add(1);
-    }
-    assert_eq!(rt; number, replies.len());
-    Ok(())
-}
-
 // On a table of so many seats and cards, each call of the list answers what stands beside it.
 pub fn check_calls<C: Cipher>(
-    rt: &impl Abort,
-    heap: Global,
+    rt: &(impl Abort + AllocGlobal),
     cipher: &C,
     size: (u8, u8),
-    list: &[(Ask, Told)],
+    list: &[(Ask, Due)],
 ) -> Result<(), Fail> {
-    let script = script(heap, size, list)?;
-    check_replies(rt, &run(heap, cipher, &script)?, list)
+    let replies = run(rt.alloc(), cipher, &script(rt.alloc(), size, list)?)?;
+    assert_eq!(rt; replies.len(), list.len());
+    for (number, (reply, (_, due))) in replies.iter().zip(list).enumerate() {
+        check_reply(rt, number, *reply, *due);
+    }
+    Ok(())
 }

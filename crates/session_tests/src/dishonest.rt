@@ -4,11 +4,10 @@ use crate::hands::check_hand;
 use crate::honest::{known, mixed};
 use cipher::Cipher;
 use session::{Script, Step};
-use std::alloc::Global;
 use std::process::Abort;
 use std::test::Fail;
 use table::call::Call;
-use verdict::{Kind, Verdict};
+use verdict::{Finding, Kind};
 
 // Makes a call another one that is accepted too. Of a lock it changes one value.
 fn spoil_call(call: &mut Call, place: usize) {
@@ -32,45 +31,93 @@ fn spoil(script: &mut Script, at: usize, place: usize) {
 }
 
 // A call of the known hand by its place in the list, and what the audit finds if it alone is
-// spoilt. Closes are calls and no entries. A wrong key makes its seat's lock dishonest.
-static KNOWN_FINDINGS: [(usize, usize, u8, Kind); 8] = [
-    (0, 0, 0, Kind::Lock),
-    (1, 1, 1, Kind::Lock),
-    (3, 3, 0, Kind::Share),
-    (5, 5, 1, Kind::Share),
-    (7, 6, 1, Kind::Show),
-    (8, 7, 0, Kind::Show),
-    (10, 1, 1, Kind::Lock),
-    (11, 0, 0, Kind::Lock),
+// spoilt.
+#[derive(Clone, Copy)]
+struct Spoilt {
+    call: usize,
+    entry: usize,
+    seat: u8,
+    kind: Kind,
+}
+
+// Closes are calls and no entries. A wrong key makes its seat's lock dishonest.
+static KNOWN_FINDINGS: [Spoilt; 8] = [
+    Spoilt {
+        call: 0,
+        entry: 0,
+        seat: 0,
+        kind: Kind::Lock,
+    },
+    Spoilt {
+        call: 1,
+        entry: 1,
+        seat: 1,
+        kind: Kind::Lock,
+    },
+    Spoilt {
+        call: 3,
+        entry: 3,
+        seat: 0,
+        kind: Kind::Share,
+    },
+    Spoilt {
+        call: 5,
+        entry: 5,
+        seat: 1,
+        kind: Kind::Share,
+    },
+    Spoilt {
+        call: 7,
+        entry: 6,
+        seat: 1,
+        kind: Kind::Show,
+    },
+    Spoilt {
+        call: 8,
+        entry: 7,
+        seat: 0,
+        kind: Kind::Show,
+    },
+    Spoilt {
+        call: 10,
+        entry: 1,
+        seat: 1,
+        kind: Kind::Lock,
+    },
+    Spoilt {
+        call: 11,
+        entry: 0,
+        seat: 0,
+        kind: Kind::Lock,
+    },
 ];
 
 // With two calls spoilt, or the same one, the audit finds the first.
 fn check_spoilt<C: Cipher>(
-    rt: &impl Abort,
-    heap: Global,
+    rt: &(impl Abort + AllocGlobal),
     cipher: &C,
-    one: (usize, usize, u8, Kind),
-    other: (usize, usize, u8, Kind),
+    one: Spoilt,
+    other: Spoilt,
 ) -> Result<(), Fail> {
-    let mut script = known(heap, cipher, (5, 5))?;
-    spoil(&mut script, one.0, 2);
-    if other.0 != one.0 {
-        spoil(&mut script, other.0, 0);
+    let mut script = known(rt.alloc(), cipher, (5, 5))?;
+    spoil(&mut script, one.call, 2);
+    if other.call != one.call {
+        spoil(&mut script, other.call, 0);
     }
-    let (_, entry, seat, kind) = if one.1 <= other.1 { one } else { other };
-    check_hand(
-        rt,
-        heap,
-        cipher,
-        &script,
-        Verdict::Dishonest { entry, seat, kind },
-    )
+    let first = if one.entry <= other.entry { one } else { other };
+    let Spoilt {
+        entry,
+        seat,
+        kind,
+        ..
+    } = first;
+    check_hand(rt, cipher, &script, Some(Finding { entry, seat, kind }))
 }
 
-fn check_pairs<C: Cipher>(rt: &impl Abort, heap: Global, cipher: &C) -> Result<(), Fail> {
+fn check_pairs<C: Cipher>(rt: &(impl Abort + AllocGlobal), cipher: &C) -> Result<(), Fail> {
     for one in &KNOWN_FINDINGS {
         for other in &KNOWN_FINDINGS {
-            check_spoilt(rt, heap, cipher, *one, *other)?;
+            check_spoilt(rt, cipher, *one, *other)?;
         }
     }
     Ok(())
@@ -78,8 +125,8 @@ fn check_pairs<C: Cipher>(rt: &impl Abort, heap: Global, cipher: &C) -> Result<(
 
 #[test]
 fn known_hand_spoilt(rt: HostRuntime) -> Result<(), Fail> {
-    check_pairs(&rt, rt.alloc(), &PRIME)?;
-    check_pairs(&rt, rt.alloc(), &BINARY)
+    check_pairs(&rt, &PRIME)?;
+    check_pairs(&rt, &BINARY)
 }
 
 // The seat of a draw by its number.
@@ -109,31 +156,24 @@ fn blame(steps: &[Step], at: usize) -> Option<(u8, Kind)> {
 // Spoils one call of the mixed hand. Those after its 45 calls of the dealing have one close
 // before them.
 fn check_mixed<C: Cipher>(
-    rt: &impl Abort,
-    heap: Global,
+    rt: &(impl Abort + AllocGlobal),
     cipher: &C,
     at: usize,
 ) -> Result<(), Fail> {
-    let mut script = mixed(heap, cipher)?;
+    let mut script = mixed(rt.alloc(), cipher)?;
     let Some((seat, kind)) = blame(&script.steps, at) else {
         return Ok(());
     };
     let entry = if at < 45 { at } else { at.wrapping_sub(1) };
     spoil(&mut script, at, at & 31);
-    check_hand(
-        rt,
-        heap,
-        cipher,
-        &script,
-        Verdict::Dishonest { entry, seat, kind },
-    )
+    check_hand(rt, cipher, &script, Some(Finding { entry, seat, kind }))
 }
 
 #[test]
 fn mixed_hands_spoilt(rt: HostRuntime) -> Result<(), Fail> {
     for at in 0..59usize {
-        check_mixed(&rt, rt.alloc(), &PRIME, at)?;
-        check_mixed(&rt, rt.alloc(), &BINARY, at)?;
+        check_mixed(&rt, &PRIME, at)?;
+        check_mixed(&rt, &BINARY, at)?;
     }
     Ok(())
 }
@@ -143,10 +183,10 @@ fn mixed_hands_spoilt(rt: HostRuntime) -> Result<(), Fail> {
 fn abandoned_share_spoilt(rt: HostRuntime) -> Result<(), Fail> {
     let mut script = mixed(rt.alloc(), &PRIME)?;
     spoil(&mut script, 17, 0);
-    let found = Verdict::Dishonest {
+    let found = Finding {
         entry: 17,
         seat: 4,
         kind: Kind::Share,
     };
-    check_hand(&rt, rt.alloc(), &PRIME, &script, found)
+    check_hand(&rt, &PRIME, &script, Some(found))
 }

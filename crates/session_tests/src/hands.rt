@@ -11,8 +11,7 @@ use std::alloc::{AllocError, Global};
 use std::process::Abort;
 use std::test::Fail;
 use table::call::Call;
-use table::fault::TableFault;
-use verdict::Verdict;
+use verdict::Finding;
 
 // A hand in the making: what was called, the last deck, the composed order, and the card of each
 // draw.
@@ -193,7 +192,7 @@ pub struct Count {
 pub const FIRST: Count = Count { entry: 0, phase: 1 };
 
 // What an accepted call answers. An audit finds what is due.
-pub fn next_reply(count: &mut Count, step: &Step, due: Verdict) -> Reply {
+pub fn next_reply(count: &mut Count, step: &Step, due: Option<Finding>) -> Reply {
     match step {
         Step::Audit => Reply::Audited(due),
         Step::Move(Call::Close) => {
@@ -208,30 +207,18 @@ pub fn next_reply(count: &mut Count, step: &Step, due: Verdict) -> Reply {
     }
 }
 
-fn check_accepted(
-    rt: &impl Abort,
-    replies: &[Result<Reply, TableFault>],
-    steps: &[Step],
-    due: Verdict,
-) -> Result<(), Fail> {
-    let mut count = FIRST;
-    let mut number = 0usize;
-    for step in steps {
-        let reply = replies.get(number).copied().ok_or("no reply")?;
-        assert_eq!(rt; reply, Ok(next_reply(&mut count, step, due)));
-        number = number.wrapping_add(1);
-    }
-    assert_eq!(rt; number, replies.len());
-    Ok(())
-}
-
 // Every call of the script is accepted, and the audit finds what is due.
 pub fn check_hand<C: Cipher>(
-    rt: &impl Abort,
-    heap: Global,
+    rt: &(impl Abort + AllocGlobal),
     cipher: &C,
     script: &Script,
-    due: Verdict,
+    due: Option<Finding>,
 ) -> Result<(), Fail> {
-    check_accepted(rt, &run(heap, cipher, script)?, &script.steps, due)
+    let replies = run(rt.alloc(), cipher, script)?;
+    assert_eq!(rt; replies.len(), script.steps.len());
+    let mut count = FIRST;
+    for (reply, step) in replies.iter().zip(script.steps.iter()) {
+        assert_eq!(rt; *reply, Ok(next_reply(&mut count, step, due)));
+    }
+    Ok(())
 }

@@ -1,36 +1,38 @@
 // Honest hands, which the audit finds clean.
 use crate::calls::Ask::*;
-use crate::calls::Told::*;
-use crate::calls::{Ask, BINARY, PRIME, Told, check_calls};
+use crate::calls::{Ask, BINARY, Due, PRIME, check_calls};
 use crate::hands::{Hand, check_hand, keyed, seated};
 use cipher::Cipher;
+use session::Reply::*;
 use session::{Script, Step};
 use std::alloc::Global;
 use std::process::Abort;
 use std::test::Fail;
 use table::call::Call;
-use verdict::Verdict;
 
 // Over the prime field, both keys 5, orders 1 2 0 and 0 2 1.
-static KNOWN: [(Ask, Told); 13] = [
-    (Lock(0, &[984943658, 470211272, 282475249]), Entered(0)),
-    (Lock(1, &[143542612, 2007237709, 1505795335]), Entered(1)),
-    (Draw(1, 1), Entered(2)),
-    (Share(0, 282475249), Entered(3)),
-    (Draw(0, 0), Entered(4)),
-    (Share(1, 984943658), Entered(5)),
-    (Close, Entered(2)),
-    (Show(0, 0), Entered(6)),
-    (Show(1, 1), Entered(7)),
-    (Close, Entered(3)),
-    (Disclose(1, 5, &[0, 2, 1]), Entered(8)),
-    (Disclose(0, 5, &[1, 2, 0]), Entered(9)),
-    (Audit, Clean),
+static KNOWN: [(Ask, Due); 13] = [
+    (Lock(0, &[984943658, 470211272, 282475249]), Ok(Entered(0))),
+    (
+        Lock(1, &[143542612, 2007237709, 1505795335]),
+        Ok(Entered(1)),
+    ),
+    (Draw(1, 1), Ok(Entered(2))),
+    (Share(0, 282475249), Ok(Entered(3))),
+    (Draw(0, 0), Ok(Entered(4))),
+    (Share(1, 984943658), Ok(Entered(5))),
+    (Close, Ok(Entered(2))),
+    (Show(0, 0), Ok(Entered(6))),
+    (Show(1, 1), Ok(Entered(7))),
+    (Close, Ok(Entered(3))),
+    (Disclose(1, 5, &[0, 2, 1]), Ok(Entered(8))),
+    (Disclose(0, 5, &[1, 2, 0]), Ok(Entered(9))),
+    (Audit, Ok(Audited(None))),
 ];
 
 #[test]
 fn known_hand(rt: HostRuntime) -> Result<(), Fail> {
-    check_calls(&rt, rt.alloc(), &PRIME, (2, 3), &KNOWN)
+    check_calls(&rt, &PRIME, (2, 3), &KNOWN)
 }
 
 // The known hand under a cipher, its values made by seats with these keys.
@@ -55,20 +57,19 @@ fn shared(steps: &[Step]) -> u64 {
 }
 
 fn check_known<C: Cipher>(
-    rt: &impl Abort,
-    heap: Global,
+    rt: &(impl Abort + AllocGlobal),
     cipher: &C,
     shares: u64,
 ) -> Result<(), Fail> {
-    let script = known(heap, cipher, (5, 5))?;
+    let script = known(rt.alloc(), cipher, (5, 5))?;
     assert_eq!(rt; shared(&script.steps), shares);
-    check_hand(rt, heap, cipher, &script, Verdict::Clean)
+    check_hand(rt, cipher, &script, None)
 }
 
 #[test]
 fn known_hand_by_seats(rt: HostRuntime) -> Result<(), Fail> {
-    check_known(&rt, rt.alloc(), &PRIME, 282475249 + 984943658)?;
-    check_known(&rt, rt.alloc(), &BINARY, 32 + 1024)
+    check_known(&rt, &PRIME, 282475249 + 984943658)?;
+    check_known(&rt, &BINARY, 32 + 1024)
 }
 
 // Shares in various orders of seats. The second draw is abandoned after a share, and the fourth
@@ -94,8 +95,8 @@ pub fn mixed<C: Cipher>(heap: Global, cipher: &C) -> Result<Script, Fail> {
 #[test]
 fn mixed_hands(rt: HostRuntime) -> Result<(), Fail> {
     let heap = rt.alloc();
-    check_hand(&rt, heap, &PRIME, &mixed(heap, &PRIME)?, Verdict::Clean)?;
-    check_hand(&rt, heap, &BINARY, &mixed(heap, &BINARY)?, Verdict::Clean)
+    check_hand(&rt, &PRIME, &mixed(heap, &PRIME)?, None)?;
+    check_hand(&rt, &BINARY, &mixed(heap, &BINARY)?, None)
 }
 
 // Every place is dealt, every draw shown, the last first, and the last seat discloses first.
@@ -110,7 +111,7 @@ fn full<C: Cipher>(heap: Global, cipher: &C, seats: u8, cards: u8) -> Result<Scr
     hand.end(cipher, &draws, &disclosed)
 }
 
-fn check_full<C: Cipher>(rt: &impl Abort, heap: Global, cipher: &C) -> Result<(), Fail> {
+fn check_full<C: Cipher>(rt: &(impl Abort + AllocGlobal), cipher: &C) -> Result<(), Fail> {
     for (seats, cards, calls) in [
         (2, 2, 13),
         (2, 52, 163),
@@ -118,9 +119,9 @@ fn check_full<C: Cipher>(rt: &impl Abort, heap: Global, cipher: &C) -> Result<()
         (5, 13, 91),
         (8, 52, 487),
     ] {
-        let script = full(heap, cipher, seats, cards)?;
+        let script = full(rt.alloc(), cipher, seats, cards)?;
         assert_eq!(rt; script.steps.len(), calls);
-        check_hand(rt, heap, cipher, &script, Verdict::Clean)?;
+        check_hand(rt, cipher, &script, None)?;
     }
     Ok(())
 }
@@ -128,6 +129,6 @@ fn check_full<C: Cipher>(rt: &impl Abort, heap: Global, cipher: &C) -> Result<()
 // The longest hand that there is has 484 entries, two closes and the audit.
 #[test]
 fn full_hands(rt: HostRuntime) -> Result<(), Fail> {
-    check_full(&rt, rt.alloc(), &PRIME)?;
-    check_full(&rt, rt.alloc(), &BINARY)
+    check_full(&rt, &PRIME)?;
+    check_full(&rt, &BINARY)
 }

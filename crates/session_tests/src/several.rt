@@ -1,5 +1,5 @@
 // Audits under another cipher, two scripts at once, and refused calls among accepted ones.
-use crate::calls::{BINARY, PRIME};
+use crate::calls::{BINARY, FIRST_LOCK, PRIME};
 use crate::hands::{FIRST, next_reply};
 use crate::honest::{known, mixed};
 use cipher::Cipher;
@@ -10,7 +10,7 @@ use std::test::Fail;
 use table::call::Call;
 use table::fault::TableFault;
 use table::table::Table;
-use verdict::{Kind, Verdict, audit};
+use verdict::audit;
 
 // A table on which every move of the script is made.
 fn played<C: Cipher>(heap: Global, cipher: &C, script: &Script) -> Result<Table, Fail> {
@@ -25,20 +25,14 @@ fn played<C: Cipher>(heap: Global, cipher: &C, script: &Script) -> Result<Table,
 
 // The first lock is not one of the other cipher.
 fn check_ciphers<C: Cipher, D: Cipher>(
-    rt: &impl Abort,
-    heap: Global,
+    rt: &(impl Abort + AllocGlobal),
     cipher: &C,
     other: &D,
     script: &Script,
 ) -> Result<(), Fail> {
-    let table = played(heap, cipher, script)?;
-    let found = Verdict::Dishonest {
-        entry: 0,
-        seat: 0,
-        kind: Kind::Lock,
-    };
-    assert_eq!(rt; audit(&table, cipher), Ok(Verdict::Clean));
-    assert_eq!(rt; audit(&table, other), Ok(found));
+    let table = played(rt.alloc(), cipher, script)?;
+    assert_eq!(rt; audit(&table, cipher), Ok(None));
+    assert_eq!(rt; audit(&table, other), Ok(Some(FIRST_LOCK)));
     Ok(())
 }
 
@@ -46,9 +40,9 @@ fn check_ciphers<C: Cipher, D: Cipher>(
 #[test]
 fn other_cipher(rt: HostRuntime) -> Result<(), Fail> {
     let heap = rt.alloc();
-    check_ciphers(&rt, heap, &PRIME, &BINARY, &known(heap, &PRIME, (5, 5))?)?;
-    check_ciphers(&rt, heap, &BINARY, &PRIME, &known(heap, &BINARY, (5, 5))?)?;
-    check_ciphers(&rt, heap, &BINARY, &PRIME, &known(heap, &BINARY, (7, 5))?)
+    check_ciphers(&rt, &PRIME, &BINARY, &known(heap, &PRIME, (5, 5))?)?;
+    check_ciphers(&rt, &BINARY, &PRIME, &known(heap, &BINARY, (5, 5))?)?;
+    check_ciphers(&rt, &BINARY, &PRIME, &known(heap, &BINARY, (7, 5))?)
 }
 
 fn check_same(rt: &impl Abort, replies: Replies, due: Replies) {
@@ -57,14 +51,13 @@ fn check_same(rt: &impl Abort, replies: Replies, due: Replies) {
 
 // Each script answers as it does alone.
 fn check_two<C: Cipher, D: Cipher>(
-    rt: &impl Abort,
-    heap: Global,
+    rt: &(impl Abort + AllocGlobal),
     first: (&C, &Script),
     second: (&D, &Script),
 ) {
-    let (one, other) = run_two(heap, first, second);
-    check_same(rt, one, run(heap, first.0, first.1));
-    check_same(rt, other, run(heap, second.0, second.1));
+    let (one, other) = run_two(rt.alloc(), first, second);
+    check_same(rt, one, run(rt.alloc(), first.0, first.1));
+    check_same(rt, other, run(rt.alloc(), second.0, second.1));
 }
 
 // Under two ciphers, and under one that is not that of the calls.
@@ -72,8 +65,8 @@ fn check_two<C: Cipher, D: Cipher>(
 fn two_scripts(rt: HostRuntime) -> Result<(), Fail> {
     let one = known(rt.alloc(), &PRIME, (5, 5))?;
     let other = mixed(rt.alloc(), &BINARY)?;
-    check_two(&rt, rt.alloc(), (&PRIME, &one), (&BINARY, &other));
-    check_two(&rt, rt.alloc(), (&PRIME, &other), (&PRIME, &one));
+    check_two(&rt, (&PRIME, &one), (&BINARY, &other));
+    check_two(&rt, (&PRIME, &other), (&PRIME, &one));
     Ok(())
 }
 
@@ -84,7 +77,7 @@ fn two_scripts_one_outside_limits(rt: HostRuntime) -> Result<(), Fail> {
     outside.seats = 9;
     let refused = run(rt.alloc(), &BINARY, &outside);
     check_same(&rt, refused, Err(TableFault::OutsideLimits));
-    check_two(&rt, rt.alloc(), (&BINARY, &outside), (&PRIME, &inside));
+    check_two(&rt, (&BINARY, &outside), (&PRIME, &inside));
     Ok(())
 }
 
@@ -118,7 +111,7 @@ fn play_among<C: Cipher>(
     for step in script.steps.iter() {
         if let Step::Move(call) = step {
             let number = make_among(rt, table, cipher, call, others)?;
-            let due = next_reply(&mut count, step, Verdict::Clean);
+            let due = next_reply(&mut count, step, None);
             assert_eq!(rt; Reply::Entered(number), due);
         }
     }
@@ -126,7 +119,8 @@ fn play_among<C: Cipher>(
 }
 
 // The others are refused whenever they come.
-fn check_among<C: Cipher>(rt: &impl Abort, heap: Global, cipher: &C) -> Result<(), Fail> {
+fn check_among<C: Cipher>(rt: &(impl Abort + AllocGlobal), cipher: &C) -> Result<(), Fail> {
+    let heap = rt.alloc();
     let deck = Vec::new(heap);
     let order = Vec::new(heap);
     let (seat, key, value) = (255, 0, 0);
@@ -139,12 +133,12 @@ fn check_among<C: Cipher>(rt: &impl Abort, heap: Global, cipher: &C) -> Result<(
     ];
     let mut table = Table::start(heap, 8, 52)?;
     play_among(rt, &mut table, cipher, &mixed(heap, cipher)?, &others)?;
-    assert_eq!(rt; audit(&table, cipher), Ok(Verdict::Clean));
+    assert_eq!(rt; audit(&table, cipher), Ok(None));
     Ok(())
 }
 
 #[test]
 fn refused_calls_in_between(rt: HostRuntime) -> Result<(), Fail> {
-    check_among(&rt, rt.alloc(), &PRIME)?;
-    check_among(&rt, rt.alloc(), &BINARY)
+    check_among(&rt, &PRIME)?;
+    check_among(&rt, &BINARY)
 }

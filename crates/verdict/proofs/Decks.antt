@@ -1,8 +1,8 @@
 -- Reading the deck that lies after a number of locks.
-use Rattle.std.proofs.Common.{◌≡◌, ℕ, ◌-◌, ◌<◌, ◌≤◌, Bool, true, false, cond, eqb, ltb, List, get_or, Ok, sym, ap, ◌∙◌, zero-add, arith}
+use Rattle.std.proofs.Common.{◌≡◌, ℕ, ◌-◌, ◌<◌, ◌≤◌, eqb, ltb, List, get_or, Ok, sym, ap, ◌∙◌, zero-add, arith}
 use Rattle.std.proofs.lemmas.List.FromFn.{length-range_with_len, get_or-range_with_len}
 use Rattle.std.proofs.lemmas.List.{get_or-map, get_or_past, length-map}
-use Rattle.std.proofs.lemmas.Bool.{cond-true, eq-eqb, lt-ltb}
+use Rattle.std.proofs.lemmas.Bool.{cond_both, cond-true, eq-eqb, lt-ltb}
 use Rattle.cipher.specs.Cipher.{CipherMeaning}
 use Rattle.cipher.specs.Answers.{code_answer}
 use Rattle.permutation.specs.Permutation.{upto}
@@ -18,13 +18,9 @@ module _ (m : CipherMeaning) (D i : ℕ) where
   first_deck_past : D ≤ i → get_or (first_deck m D) i 0 ≡ 0
   first_deck_past h = get_or_past (first_deck m D) i 0 (omega (arith, length-map (upto D) m.code, length-range_with_len 0 D))
 
-either_past : (b : Bool) (xs ys : List ℕ) (i : ℕ) → get_or xs i 0 ≡ 0 → get_or ys i 0 ≡ 0 → get_or (cond b xs ys) i 0 ≡ 0
-either_past true xs ys i p q = p
-either_past false xs ys i p q = q
-
 module _ (m : CipherMeaning) (t : State) (n i : ℕ) where
   pub deck_past : t.cards ≤ i → get_or (deck_after m t n) i 0 ≡ 0
-  deck_past h = either_past (eqb n 0) _ _ i (first_deck_past m t.cards i h) (part_past t.cards (n - 1) i t.decks 0 h)
+  deck_past h = cond_both (eqb n 0) _ _ (λ deck. get_or deck i 0 ≡ 0) (λ _. first_deck_past m t.cards i h) (λ _. part_past t.cards (n - 1) i t.decks 0 h)
 
   -- before the first lock each card has its code
   pub code_at : n ≡ 0 → i < t.cards → t.cards ≤ 52 → code_answer m i ≡ Ok (get_or (deck_after m t n) i 0)

@@ -1,14 +1,15 @@
 -- Which entries are honest, and what an audit says of a log.
-use Rattle.std.specs.Prelude.{ℕ, zero, suc, Bool, true, false, cond, ◌&&◌, List, [], ◌∷◌, map, Ok, Err, Result, ◌==◌, slice_index}
+use Rattle.std.specs.Prelude.{ℕ, zero, suc, Bool, true, false, cond, ◌&&◌, List, [], ◌∷◌, map, Ok, Err, Result, Option, Some, None, ◌==◌, slice_index}
+use Rattle.std.specs.Option.{option_or}
 use Rattle.cipher.specs.Cipher.{CipherMeaning}
 use Rattle.cipher.specs.Answers.{lock_answer, undo_answer, code_answer}
 use Rattle.cipher.specs.declared.fault.CipherFault.{CipherFault}
 use Rattle.permutation.specs.Permutation.{upto}
 use Rattle.table.specs.State.{Move, lock, draw, share, abandon, close, show, disclose}
 use Rattle.verdict.specs.Log.{Log, entries, up_to, drawn, secret}
+use Rattle.verdict.specs.declared.Kind.{Kind}
 use Rattle.verdict.specs.declared.Kind.TheVariants as kind
-use Rattle.verdict.specs.declared.Verdict.{Verdict}
-use Rattle.verdict.specs.declared.Verdict.TheVariants.{Clean, Dishonest}
+use Rattle.verdict.specs.declared.Finding.{Finding}
 
 -- a step of the cipher that is not refused and gives this value
 abbrev pub gives : Result ℕ CipherFault → ℕ → Bool
@@ -33,9 +34,13 @@ module _ (m : CipherMeaning) where
   abbrev pub first_deck : ℕ → List ℕ
   first_deck D = map m.code (upto D)
 
-  -- at each of D places i the value at place order(i) of the deck before, locked under the key
+  -- at place i the value at place order(i) of the deck before, locked under the key
+  abbrev pub honest_place : ℕ → List ℕ → List ℕ → List ℕ → ℕ → Bool
+  honest_place key order before deck i = gives (lock_answer m key (slice_index before (slice_index order i))) (slice_index deck i)
+
+  -- that, at each of D places
   abbrev pub honest_lock : ℕ → ℕ → List ℕ → List ℕ → List ℕ → Bool
-  honest_lock D key order before deck = all_below D (λ i. gives (lock_answer m key (slice_index before (slice_index order i))) (slice_index deck i))
+  honest_lock D key order before deck = all_below D (honest_place key order before deck)
 
   -- the chain value with the key's lock taken off
   abbrev pub honest_share : ℕ → ℕ → ℕ → Bool
@@ -87,10 +92,16 @@ told_by S first log = record {
   value = λ d. chain first (up_to d log);
 }
 
+-- what an audit finds: nothing in a clean hand, or else the first entry that is not honest
+abbrev pub Verdict : Type 0
+Verdict = Option Finding
+
+abbrev pub dishonest : ℕ → ℕ → Kind → Verdict
+dishonest entry seat kind = Some (record { entry = entry; seat = seat; kind = kind })
+
 -- what was found earlier is named first
 abbrev pub earlier : Verdict → Verdict → Verdict
-earlier Clean later = later
-earlier (Dishonest entry seat kind) later = Dishonest entry seat kind
+earlier = option_or
 
 module _ (m : CipherMeaning) (D : ℕ) (told : Told) where
   -- a move, by those before it
@@ -105,17 +116,17 @@ module _ (m : CipherMeaning) (D : ℕ) (told : Told) where
 
   -- an entry of this number named by its seat and kind; no others can be dishonest
   abbrev pub accused : ℕ → Move → Verdict
-  accused entry (lock s deck) = Dishonest entry s kind.Lock
-  accused entry (draw s p) = Clean
-  accused entry (share s v) = Dishonest entry s kind.Share
-  accused entry abandon = Clean
-  accused entry close = Clean
-  accused entry (show d c) = Dishonest entry (told.drawer d) kind.Show
-  accused entry (disclose s k o) = Clean
+  accused entry (lock s deck) = dishonest entry s kind.Lock
+  accused entry (draw s p) = None
+  accused entry (share s v) = dishonest entry s kind.Share
+  accused entry abandon = None
+  accused entry close = None
+  accused entry (show d c) = dishonest entry (told.drawer d) kind.Show
+  accused entry (disclose s k o) = None
 
   abbrev pub finding : Log → Move → Verdict
-  finding before x = cond (honest before x) Clean (accused (entries before) x)
+  finding before x = cond (honest before x) None (accused (entries before) x)
 
   abbrev pub verdict : Log → Verdict
-  verdict [] = Clean
+  verdict [] = None
   verdict (x ∷ before) = earlier (verdict before) (finding before x)

@@ -1,4 +1,5 @@
 pub mod Log
+pub mod Printed
 pub mod Honesty
 pub mod Tables
 pub mod Forward

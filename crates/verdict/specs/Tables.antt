@@ -10,8 +10,7 @@ use Rattle.table.specs.declared.record.Event.{Event}
 use Rattle.table.specs.declared.record.Event.TheVariants as event
 use Rattle.table.specs.declared.fault.TableFault.{TableFault}
 use Rattle.verdict.specs.Log.{Log, locks, disclosures}
-use Rattle.verdict.specs.Honesty.{Told, verdict}
-use Rattle.verdict.specs.declared.Verdict.{Verdict}
+use Rattle.verdict.specs.Honesty.{Told, Verdict, verdict}
 
 -- number n of the lists of this length that stand one after the other
 abbrev pub part : {A : Type 0} → ℕ → ℕ → List A → List A

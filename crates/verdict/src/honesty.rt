@@ -1,60 +1,51 @@
 // Whether a lock, a share or a show is what the disclosed keys and orders make it.
-ghost use Rattle.std.specs.Prelude.{◌≡◌};
+ghost use Rattle.std.specs.Prelude.{◌≡◌, ◌<◌};
 ghost use Rattle.table.specs.Model.{state_of_record};
-ghost use Rattle.verdict.specs.Honesty.{gives, unlock_answer, honest_share, honest_show};
-ghost use Rattle.verdict.specs.Forward.{Bounded, honest_lock_after};
+ghost use Rattle.verdict.specs.Tables.{told_of};
+ghost use Rattle.verdict.specs.Honesty.{unlock_answer, honest_share, honest_show};
+ghost use Rattle.verdict.specs.Forward.{honest_place_after, honest_lock_after};
 
-use crate::reading::{deck_value, entered_value, key_of, order_value};
+use crate::hearing::Hearing;
 use cipher::Cipher;
 use cipher::fault::CipherFault;
-use table::record::Record;
-
-// Whether a step of the cipher gives the value. A refused step gives none.
-fn gives(answer: Result<u32, CipherFault>, value: u32) -> bool
-    ensures { result ≡ gives answer value }
-{
-    match answer {
-        Ok(given) => given == value,
-        Err(_) => false,
-    }
-}
 
 fn unlock<C: Cipher>(cipher: &C, key: u32, value: u32) -> Result<u32, CipherFault>
     ensures { result ≡ unlock_answer (C.Cipher.meaning cipher.now) key value }
 {
-    let undo = cipher.undo_key(key)?;
-    cipher.lock(undo, value)
+    cipher.lock(cipher.undo_key(key)?, value)
 }
 
-// Whether the deck of a lock is the one before it, shuffled by the seat's order and locked
-// under its key.
-pub(crate) fn honest_lock<C: Cipher>(held: &Record, cipher: &C, locks: u16, seat: u8) -> bool
-    requires { Bounded held.now }
-    ensures { result ≡ honest_lock_after (C.Cipher.meaning cipher.now) (state_of_record held.now) locks seat }
-{
-    let key = key_of(held, seat);
-    for place in 0..held.cards {
-        let before = deck_value(held, cipher, locks, order_value(held, seat, place));
-        if !gives(cipher.lock(key, before), entered_value(held, locks, place)) {
-            return false;
-        }
+impl<C: Cipher> Hearing<'_, C> {
+    // Whether a lock entered at a place what it takes from the deck before it.
+    fn honest_place(&self, locks: u16, seat: u8, place: u8) -> bool
+        requires { place < self.now.record.now.cards }
+        ensures { result ≡ honest_place_after (C.Cipher.meaning self.now.cipher.now) (state_of_record self.now.record.now) locks seat place }
+    {
+        let before = self.deck_value(locks, self.order_value(seat, place));
+        let due = self.cipher.lock(self.key_of(seat), before);
+        due == Ok(self.entered_value(locks, place))
     }
-    true
-}
 
-// Whether a share is the chain value with the key's lock taken off.
-pub(crate) fn honest_share<C: Cipher>(cipher: &C, key: u32, chain: u32, value: u32) -> bool
-    ensures { result ≡ honest_share (C.Cipher.meaning cipher.now) key chain value }
-{
-    gives(unlock(cipher, key, chain), value)
-}
+    // Whether the deck of a lock is the one before it, shuffled by the seat's order and locked
+    // under its key.
+    pub(crate) fn honest_lock(&self, locks: u16, seat: u8) -> bool
+        ensures { result ≡ honest_lock_after (C.Cipher.meaning self.now.cipher.now) (state_of_record self.now.record.now) locks seat }
+    {
+        (0..self.record.cards).all(|place| self.honest_place(locks, seat, place))
+    }
 
-// Whether the chain value with the drawer's lock taken off is the card's code.
-pub(crate) fn honest_show<C: Cipher>(cipher: &C, key: u32, chain: u32, card: u8) -> bool
-    ensures { result ≡ honest_show (C.Cipher.meaning cipher.now) key chain card }
-{
-    match cipher.code(card) {
-        Ok(code) => gives(unlock(cipher, key, chain), code),
-        Err(_) => false,
+    // Whether a share is the chain value with the seat's lock taken off.
+    pub(crate) fn honest_share(&self, seat: u8, chain: u32, value: u32) -> bool
+        ensures { result ≡ honest_share (C.Cipher.meaning self.now.cipher.now) ((told_of (state_of_record self.now.record.now)).key seat) chain value }
+    {
+        unlock(self.cipher, self.key_of(seat), chain) == Ok(value)
+    }
+
+    // Whether the chain value with the drawer's lock taken off is the card's code.
+    pub(crate) fn honest_show(&self, seat: u8, chain: u32, card: u8) -> bool
+        ensures { result ≡ honest_show (C.Cipher.meaning self.now.cipher.now) ((told_of (state_of_record self.now.record.now)).key seat) chain card }
+    {
+        let opened = unlock(self.cipher, self.key_of(seat), chain);
+        self.cipher.code(card).is_ok_and(|code| opened == Ok(code))
     }
 }

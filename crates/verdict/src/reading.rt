@@ -1,14 +1,15 @@
 // Reading a record. What it does not hold is read as 0, so that no reading can fail.
-ghost use Rattle.std.specs.Prelude.{◌≡◌, ◌<◌, slice_index, slice_index_or};
+ghost use Rattle.std.specs.Prelude.{◌≡◌, ◌<◌, ◌==◌, slice_index, position};
 ghost use Rattle.table.specs.State.{draw_at};
 ghost use Rattle.table.specs.Model.{state_of_record};
 ghost use Rattle.verdict.specs.Tables.{part, disclosure_of, told_of};
-ghost use Rattle.verdict.specs.Forward.{Bounded, deck_after};
+ghost use Rattle.verdict.specs.Forward.{deck_after};
 
+use crate::hearing::Hearing;
 use cipher::Cipher;
-use table::record::{Disclosure, DrawRecord, End, Record};
+use table::record::{DrawRecord, End};
 
-// What stands for a draw, and for a disclosure, that there is not.
+// What stands for a draw that there is not.
 const NO_DRAW: DrawRecord = DrawRecord {
     seat: 0,
     place: 0,
@@ -19,73 +20,71 @@ const NO_DRAW: DrawRecord = DrawRecord {
     shown: false,
 };
 
-const NO_DISCLOSURE: Disclosure = Disclosure { seat: 0, key: 0 };
+impl<C> Hearing<'_, C> {
+    // The draw of a number.
+    pub(crate) fn draw_at(&self, draw: u8) -> DrawRecord
+        ensures { result ≡ draw_at (state_of_record self.now.record.now) draw }
+    {
+        let draws = &self.record.draws;
+        draws.get(usize::from(draw)).copied().unwrap_or(NO_DRAW)
+    }
 
-fn item_or<T: Copy>(items: &[T], place: usize, none: T) -> T
-    ensures { result ≡ slice_index_or items.now place none }
-{
-    match items.get(place) {
-        Some(item) => *item,
-        None => none,
+    // Which of the disclosures is the seat's.
+    fn disclosure_of(&self, seat: u8) -> Option<usize>
+        ensures { result ≡ position (λ d. d.seat == seat) self.now.record.now.disclosures.items }
+    {
+        self.record.disclosures.iter().position(|d| d.seat == seat)
+    }
+
+    // The same, or the count of the disclosures if none is the seat's.
+    fn disclosure_or_end(&self, seat: u8) -> usize
+        ensures { result ≡ disclosure_of (state_of_record self.now.record.now) seat }
+    {
+        self.disclosure_of(seat)
+            .unwrap_or(self.record.disclosures.len())
+    }
+
+    // The key that the seat disclosed.
+    pub(crate) fn key_of(&self, seat: u8) -> u32
+        ensures { result ≡ (told_of (state_of_record self.now.record.now)).key seat }
+    {
+        let told = self.record.disclosures.get(self.disclosure_or_end(seat));
+        told.map_or(0, |d| d.key)
+    }
+
+    // The place that the seat's order holds at a place.
+    pub(crate) fn order_value(&self, seat: u8, place: u8) -> u8
+        requires within { place < self.now.record.now.cards }
+        ensures { result ≡ slice_index ((told_of (state_of_record self.now.record.now)).order seat) place }
+    {
+        let start = self.disclosure_or_end(seat) * usize::from(self.record.cards);
+        let place = start + usize::from(place);
+        self.record.orders.get(place).copied().unwrap_or(0)
+    }
+
+    // The value at a place of the deck that a lock entered.
+    pub(crate) fn entered_value(&self, lock: u16, place: u8) -> u32
+        requires within { place < self.now.record.now.cards }
+        ensures { result ≡ slice_index (part self.now.record.now.cards lock self.now.record.now.decks.items) place }
+    {
+        let start = usize::from(lock) * usize::from(self.record.cards);
+        let place = start + usize::from(place);
+        self.record.decks.get(place).copied().unwrap_or(0)
     }
 }
 
-// The draw of a number.
-pub(crate) fn draw_at(held: &Record, draw: u8) -> DrawRecord
-    ensures { result ≡ draw_at (state_of_record held.now) draw }
-{
-    item_or(&held.draws, usize::from(draw), NO_DRAW)
-}
-
-// Which of the disclosures is the seat's; their count if none is.
-fn disclosure_of(held: &Record, seat: u8) -> usize
-    ensures { result ≡ disclosure_of (state_of_record held.now) seat }
-{
-    for (number, disclosure) in held.disclosures.iter().enumerate() {
-        if disclosure.seat == seat {
-            return number;
+impl<C: Cipher> Hearing<'_, C> {
+    // The value at a place of the deck after a number of locks: before the first it holds the
+    // cards' codes.
+    pub(crate) fn deck_value(&self, locks: u16, place: u8) -> u32
+        ensures { result ≡ slice_index (deck_after (C.Cipher.meaning self.now.cipher.now) (state_of_record self.now.record.now) locks) place }
+    {
+        if place >= self.record.cards {
+            return 0;
         }
+        if locks == 0 {
+            return self.cipher.code(place).unwrap_or(0);
+        }
+        self.entered_value(locks - 1, place)
     }
-    held.disclosures.len()
-}
-
-// The key that the seat disclosed.
-pub(crate) fn key_of(held: &Record, seat: u8) -> u32
-    ensures { result ≡ (told_of (state_of_record held.now)).key seat }
-{
-    item_or(&held.disclosures, disclosure_of(held, seat), NO_DISCLOSURE).key
-}
-
-// The place that the seat's order holds at a place.
-pub(crate) fn order_value(held: &Record, seat: u8, place: u8) -> u8
-    requires bounded { Bounded held.now }
-    requires within { place < held.now.cards }
-    ensures { result ≡ slice_index ((told_of (state_of_record held.now)).order seat) place }
-{
-    let start = disclosure_of(held, seat) * usize::from(held.cards);
-    item_or(&held.orders, start + usize::from(place), 0)
-}
-
-// The value at a place of the deck that a lock entered.
-pub(crate) fn entered_value(held: &Record, lock: u16, place: u8) -> u32
-    requires within { place < held.now.cards }
-    ensures { result ≡ slice_index (part held.now.cards lock held.now.decks.items) place }
-{
-    let start = usize::from(lock) * usize::from(held.cards);
-    item_or(&held.decks, start + usize::from(place), 0)
-}
-
-// The value at a place of the deck after a number of locks: before the first it holds the
-// cards' codes.
-pub(crate) fn deck_value<C: Cipher>(held: &Record, cipher: &C, locks: u16, place: u8) -> u32
-    requires { Bounded held.now }
-    ensures { result ≡ slice_index (deck_after (C.Cipher.meaning cipher.now) (state_of_record held.now) locks) place }
-{
-    if place >= held.cards {
-        return 0;
-    }
-    if locks == 0 {
-        return cipher.code(place).unwrap_or(0);
-    }
-    entered_value(held, locks - 1, place)
 }

@@ -1,14 +1,12 @@
 -- A worked hand of two seats and three cards over the prime field: both keys are 5, the orders 1 2 0 and 0 2 1.
-use Rattle.std.specs.Prelude.{◌≡◌, ℕ, List, [], ◌∷◌, Ok, Result}
+use Rattle.std.specs.Prelude.{◌≡◌, ℕ, List, [], ◌∷◌, Ok, None, Result}
 use Rattle.cipher.specs.Cipher.{CipherMeaning}
 use Rattle.cipher.specs.Decks.{locked_deck}
 use Rattle.permutation.specs.Permutation.{composed}
 use Rattle.table.specs.State.{lock, draw, share, close, show, disclose}
 use Rattle.table.specs.declared.fault.TableFault.{TableFault}
-use Rattle.verdict.specs.Honesty.{first_deck}
+use Rattle.verdict.specs.Honesty.{first_deck, Verdict, dishonest}
 use Rattle.verdict.specs.declared.Kind.TheVariants as kind
-use Rattle.verdict.specs.declared.Verdict.{Verdict}
-use Rattle.verdict.specs.declared.Verdict.TheVariants.{Clean, Dishonest}
 use Rattle.session.specs.Runs.{Asked, move, audit, answers}
 use Rattle.session.specs.declared.Reply.{Reply}
 use Rattle.session.specs.declared.Reply.TheVariants.{Entered, Audited}
@@ -49,6 +47,6 @@ pub record WorkedHand (m : CipherMeaning) : Type 0 where
   pub first_lock : locked_deck m 5 (1 ∷ 2 ∷ 0 ∷ []) (first_deck m 3) ≡ once
   pub second_lock : locked_deck m 5 (0 ∷ 2 ∷ 1 ∷ []) once ≡ twice
   pub composed_order : composed 3 orders ≡ 1 ∷ 0 ∷ 2 ∷ []
-  pub clean : answers m 2 3 [] (hand 0) ≡ replies Clean
+  pub clean : answers m 2 3 [] (hand 0) ≡ replies None
   -- card 2 shown first, by the drawer of draw 0
-  pub not_clean : answers m 2 3 [] (hand 2) ≡ replies (Dishonest 6 1 kind.Show)
+  pub not_clean : answers m 2 3 [] (hand 2) ≡ replies (dishonest 6 1 kind.Show)
