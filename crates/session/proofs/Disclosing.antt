@@ -3,11 +3,11 @@ use Rattle.std.proofs.Common.{◌≡◌, ℕ, suc, ◌*◌, ◌<◌, Bool, true,
 use lib.ListN.{get_or-append}
 use Rattle.std.proofs.lemmas.Bool.{eqb-true, eq-eqb, ne_eqb, cases_Bool, cond-true, cond-false, or_parts, not_from_true, not_from_false, true≢false}
 use Rattle.std.proofs.lemmas.List.{get_or_past, get_or_push, length_push}
-use Rattle.std.specs.List.{prefix_len}
+use Rattle.std.specs.List.{prefix_len, list_any}
 use Rattle.std.proofs.lemmas.List.Folds.{position_or_len_push}
 use Rattle.cipher.specs.Cipher.{CipherMeaning}
 use Rattle.table.specs.State.{lock, draw, share, abandon, close, show, disclose}
-use Rattle.table.specs.Rules.{some, has_disclosed}
+use Rattle.table.specs.Rules.{has_disclosed}
 use Rattle.table.specs.declared.record.Disclosure.{Disclosure}
 use Rattle.verdict.specs.Log.{Log, discloses_seat, secret, Secret}
 use Rattle.verdict.specs.Tables.{part, no_disclosure}
@@ -20,34 +20,34 @@ module _ {A : Type 0} (test : A → Bool) where
   abbrev place : List A → ℕ
   place xs = prefix_len (λ x. not (test x)) xs
 
-  place_none : (xs : List A) → some test xs ≡ false → place xs ≡ length xs
+  place_none : (xs : List A) → list_any test xs ≡ false → place xs ≡ length xs
   place_none [] none = refl
   place_none (x ∷ xs) none =
-      let parts = or_parts (test x) (some test xs) none in
+      let parts = or_parts (test x) (list_any test xs) none in
       cond-true _ _ _ (not_from_false (test x) parts.0) ∙ omega (arith, place_none xs parts.1)
 
-  place_below : (xs : List A) → some test xs ≡ true → place xs < length xs
+  place_below : (xs : List A) → list_any test xs ≡ true → place xs < length xs
   place_below [] found = absurd (true≢false (sym found))
   place_below (x ∷ xs) found =
       elim (cases_Bool (test x)) [
         | inl is ↦ subst (λ (n : ℕ). n < suc (length xs)) (sym (cond-false _ _ _ (not_from_true (test x) is))) (omega arith)
         | inr other ↦
             subst (λ (n : ℕ). n < suc (length xs)) (sym (cond-true _ _ _ (not_from_false (test x) other)))
-            (omega (arith, place_below xs (sym (ap (λ (b : Bool). b || some test xs) other) ∙ found)))
+            (omega (arith, place_below xs (sym (ap (λ (b : Bool). b || list_any test xs) other) ∙ found)))
       ]
 
   -- one that was found stays where it is
-  place_stays : (xs : List A) (y : A) → some test xs ≡ true → place (xs ++ (y ∷ [])) ≡ place xs
+  place_stays : (xs : List A) (y : A) → list_any test xs ≡ true → place (xs ++ (y ∷ [])) ≡ place xs
   place_stays xs y found =
       position_or_len_push test xs y ∙ cond-false _ _ _ (ne_eqb (place xs) (length xs) (λ e. omega (arith, e, place_below xs found)))
 
-  place_new : (xs : List A) (y : A) → some test xs ≡ false → test y ≡ true → place (xs ++ (y ∷ [])) ≡ length xs
+  place_new : (xs : List A) (y : A) → list_any test xs ≡ false → test y ≡ true → place (xs ++ (y ∷ [])) ≡ length xs
   place_new xs y none is =
       position_or_len_push test xs y
       ∙ cond-true _ _ _ (eq-eqb (place xs) (length xs) (place_none xs none))
       ∙ omega (arith, cond-true {A = ℕ} (test y) 0 1 is)
 
-  place_still_none : (xs : List A) (y : A) → some test xs ≡ false → test y ≡ false → place (xs ++ (y ∷ [])) ≡ suc (length xs)
+  place_still_none : (xs : List A) (y : A) → list_any test xs ≡ false → test y ≡ false → place (xs ++ (y ∷ [])) ≡ suc (length xs)
   place_still_none xs y none other =
       place_none (xs ++ (y ∷ [])) (some_added test xs y ∙ ap₂ (λ (a : Bool) (b : Bool). a || b) other none) ∙ omega (arith, length_push xs y)
 
@@ -62,7 +62,7 @@ module _ (long : ℕ) (ds : List Disclosure) (orders : List ℕ) (whole : length
   of_seat e = eqb e.seat s
 
   -- a seat that has not disclosed yet
-  found_new : some of_seat ds ≡ false → of_seat d ≡ true → found_secret long (ds ++ (d ∷ [])) (orders ++ o) s ≡ record { key = d.key; order = o }
+  found_new : list_any of_seat ds ≡ false → of_seat d ≡ true → found_secret long (ds ++ (d ∷ [])) (orders ++ o) s ≡ record { key = d.key; order = o }
   found_new none is =
       ap (λ (n : ℕ). record { key = (get_or (ds ++ (d ∷ [])) n no_disclosure).key; order = part long n (orders ++ o) }) (place_new of_seat ds d none is)
       ∙ ap₂ (λ (e : Disclosure) (p : List ℕ). record { key = e.key; order = p }) (get_or_push ds d no_disclosure (length ds) refl) (part_last long (length ds) orders o whole is_long)
@@ -70,7 +70,7 @@ module _ (long : ℕ) (ds : List Disclosure) (orders : List ℕ) (whole : length
   -- the disclosure of another
   found_other : of_seat d ≡ false → found_secret long (ds ++ (d ∷ [])) (orders ++ o) s ≡ found_secret long ds orders s
   found_other other =
-      elim (cases_Bool (some of_seat ds)) [
+      elim (cases_Bool (list_any of_seat ds)) [
         | inl found ↦
             let n = place of_seat ds in
             let below = place_below of_seat ds found in
@@ -87,7 +87,7 @@ module _ (long : ℕ) (ds : List Disclosure) (orders : List ℕ) (whole : length
       ]
 
 module _ (m : CipherMeaning) (S D : ℕ) where
-  pub disclosed_kept : (log : Log) (s : ℕ) → has_disclosed (replay S D log).disclosures s ≡ some (discloses_seat s) log
+  pub disclosed_kept : (log : Log) (s : ℕ) → has_disclosed (replay S D log).disclosures s ≡ list_any (discloses_seat s) log
   disclosed_kept [] r = refl
   disclosed_kept (lock s deck ∷ log) r = disclosed_kept log r
   disclosed_kept (draw s p ∷ log) r = disclosed_kept log r

@@ -3,9 +3,10 @@ use Rattle.std.proofs.Common.{◌≡◌, ℕ, zero, suc, ◌+◌, ◌-◌, ◌*�
 use Rattle.std.proofs.lemmas.Bool.{eqb-true, eqb-false, cases_Bool, cond-true, cond-false, cases_lt, true≢false}
 use Rattle.std.proofs.lemmas.Bool.Decides.{nat_tests}
 use Rattle.std.proofs.lemmas.List.{get_or_past}
+use Rattle.std.specs.List.{list_any}
 use Rattle.cipher.specs.Cipher.{CipherMeaning}
 use Rattle.table.specs.State.{Move, lock, draw, share, abandon, close, show, disclose, draw_at, last_draw, no_draw, begun, shared_by, abandoned, revealed, is_running, is_dealt}
-use Rattle.table.specs.Rules.{some, taken, within_limits}
+use Rattle.table.specs.Rules.{taken, within_limits}
 use Rattle.table.specs.declared.record.DrawRecord.{DrawRecord}
 use Rattle.table.specs.declared.record.End.TheVariants.{Running, Dealt}
 use Rattle.table.specs.declared.record.Phase.TheVariants.{Dealing}
@@ -206,7 +207,7 @@ module _ (m : CipherMeaning) (S D : ℕ) (first : List ℕ) where
         skipped (show e c) log d _ refl refl refl (shown_once e log (dealt_within log e all.0.dealt) (drawn_kept log all.1) d)
     drawn_kept (disclose s k o ∷ log) all d = skipped (disclose s k o) log d _ refl refl refl (drawn_kept log all.1 d)
 
-    pub shown_kept : (log : Log) → Accepted m S D log → (d : ℕ) → (draw_at (replay S D log) d).shown ≡ some (shows_draw d) log
+    pub shown_kept : (log : Log) → Accepted m S D log → (d : ℕ) → (draw_at (replay S D log) d).shown ≡ list_any (shows_draw d) log
     shown_kept [] all d = ap (λ (r : DrawRecord). r.shown) (get_or_past [] d no_draw (omega arith))
     shown_kept (lock s deck ∷ log) all d = shown_kept log all.1 d
     shown_kept (draw s p ∷ log) all d = told_added no_draw (λ (r : DrawRecord). r.shown) (replay S D log).draws _ d refl ∙ shown_kept log all.1 d
@@ -222,7 +223,7 @@ module _ (m : CipherMeaning) (S D : ℕ) (first : List ℕ) where
         ∙ ap (λ (b : Bool). eqb e d || b) (shown_kept log all.1 d)
     shown_kept (disclose s k o ∷ log) all d = shown_kept log all.1 d
 
-    pub taken_kept : (log : Log) → Accepted m S D log → (p : ℕ) → taken (replay S D log).draws p ≡ some (draws_place p) log
+    pub taken_kept : (log : Log) → Accepted m S D log → (p : ℕ) → taken (replay S D log).draws p ≡ list_any (draws_place p) log
     taken_kept [] all q = refl
     taken_kept (lock s deck ∷ log) all q = taken_kept log all.1 q
     taken_kept (draw s p ∷ log) all q = some_added (λ (r : DrawRecord). eqb r.place q) (replay S D log).draws _ ∙ ap (λ (b : Bool). eqb p q || b) (taken_kept log all.1 q)

@@ -3,7 +3,7 @@ use Rattle.std.proofs.Common.{◌≡◌, ℕ, zero, suc, ◌+◌, ◌*◌, ◌<�
 use lib.Seq.{take-append_seam, drop-append_seam, take-append-le, drop-append-le}
 use Rattle.std.proofs.lemmas.List.{drop_all, get_or_push, get_or_past}
 use Rattle.std.proofs.lemmas.Bool.{eqb-true, eqb-false, cases_Bool, cond-true, cond-false}
-use Rattle.table.specs.Rules.{some}
+use Rattle.std.specs.List.{list_any}
 use Rattle.verdict.specs.Tables.{part}
 
 module _ {A : Type 0} (long : ℕ) where
@@ -68,9 +68,9 @@ module _ {A : Type 0} (z : A) where
         ]
 
   -- a search in a list of which an element changed, or that has one more
-  pub some_changed : (test : A → Bool) (xs : List A) (i : ℕ) (x : A) → i < length xs → test x ≡ test (get_or xs i z) → some test (set xs i x) ≡ some test xs
+  pub some_changed : (test : A → Bool) (xs : List A) (i : ℕ) (x : A) → i < length xs → test x ≡ test (get_or xs i z) → list_any test (set xs i x) ≡ list_any test xs
   some_changed test [] i x below same = refl
-  some_changed test (y ∷ xs) zero x below same = ap (λ (b : Bool). b || some test xs) same
+  some_changed test (y ∷ xs) zero x below same = ap (λ (b : Bool). b || list_any test xs) same
   some_changed test (y ∷ xs) (suc i) x below same = ap (λ (b : Bool). test y || b) (some_changed test xs i x (omega arith) same)
 
 or_swap : (a b c : Bool) → (a || (b || c)) ≡ (b || (a || c))
@@ -79,6 +79,6 @@ or_swap true false c = refl
 or_swap false true c = refl
 or_swap false false c = refl
 
-pub some_added : {A : Type 0} (test : A → Bool) (xs : List A) (x : A) → some test (xs ++ (x ∷ [])) ≡ (test x || some test xs)
+pub some_added : {A : Type 0} (test : A → Bool) (xs : List A) (x : A) → list_any test (xs ++ (x ∷ [])) ≡ (test x || list_any test xs)
 some_added test [] x = refl
-some_added test (y ∷ xs) x = ap (λ (b : Bool). test y || b) (some_added test xs x) ∙ or_swap (test y) (test x) (some test xs)
+some_added test (y ∷ xs) x = ap (λ (b : Bool). test y || b) (some_added test xs x) ∙ or_swap (test y) (test x) (list_any test xs)

@@ -2,9 +2,9 @@
 use Rattle.std.proofs.Common.{◌≡◌, ℕ, suc, ◌+◌, ◌-◌, ◌<◌, ◌≤◌, Bool, true, false, cond, eqb, [], ◌∷◌, ◌++◌, sym, refl, ap, ◌∙◌, subst, inl, inr, arith}
 use Rattle.std.proofs.lemmas.Bool.{cond-true, cond-false, cases_lt, eq-eqb, ne_eqb, or_right, true≢false}
 use Rattle.std.proofs.lemmas.Bool.Decides.{eqb_tells}
+use Rattle.std.specs.List.{list_any}
 use Rattle.cipher.specs.Cipher.{CipherMeaning}
 use Rattle.table.specs.State.{Move, is_running}
-use Rattle.table.specs.Rules.{some}
 use Rattle.verdict.specs.Log.{Log, is_draw, draws, latest, up_to, drawn}
 use Rattle.session.proofs.Accepted.{Accepted}
 use Rattle.session.proofs.Entries.{Part, earlier_part}
@@ -64,9 +64,9 @@ up_to_part d log =
     subst (λ (l : Log). Part (up_to d log) l) (sym rest.1) (earlier_part rest.0 (up_to d log))
 
 -- a move found in the part is found in the log
-pub some_earlier : (test : Move → Bool) (later log : Log) → some test log ≡ true → some test (later ++ log) ≡ true
+pub some_earlier : (test : Move → Bool) (later log : Log) → list_any test log ≡ true → list_any test (later ++ log) ≡ true
 some_earlier test [] log found = found
-some_earlier test (x ∷ later) log found = or_right (test x) (some test (later ++ log)) (some_earlier test later log found)
+some_earlier test (x ∷ later) log found = or_right (test x) (list_any test (later ++ log)) (some_earlier test later log found)
 
 -- a draw that runs is the last one
 pub running_last : (S : ℕ) (log : Log) → is_running (drawn S (draws log - 1) log).end ≡ true → drawn S (draws log - 1) log ≡ latest S log

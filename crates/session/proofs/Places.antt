@@ -2,16 +2,16 @@
 use Rattle.std.proofs.Common.{◌≡◌, ℕ, ◌+◌, ◌<◌, ◌≤◌, true, eqb, [], ◌∷◌, sym, refl, ap, ◌∙◌, subst, inl, inr, arith}
 use Rattle.std.proofs.lemmas.Bool.{true≢false, eq-eqb, or_left}
 use Rattle.std.proofs.lemmas.Bool.Decides.{eqb_tells}
+use Rattle.std.specs.List.{list_any}
 use Rattle.cipher.specs.Cipher.{CipherMeaning}
 use Rattle.table.specs.State.{Move, lock, draw, share, abandon, close, show, disclose}
-use Rattle.table.specs.Rules.{some}
 use Rattle.verdict.specs.Log.{Log, draws, latest, up_to, drawn, draws_place}
 use Rattle.session.proofs.Accepted.{Accepted}
 use Rattle.session.proofs.Parts.{draws_more, up_to_last, up_to_other, up_to_draws, up_to_earlier, some_earlier, accepted_up_to}
 
 module _ (S : ℕ) where
   -- the place of the last draw was drawn
-  latest_taken : (log : Log) → 1 ≤ draws log → some (draws_place (latest S log).place) log ≡ true
+  latest_taken : (log : Log) → 1 ≤ draws log → list_any (draws_place (latest S log).place) log ≡ true
   latest_taken [] one = absurd (omega arith)
   latest_taken (lock s deck ∷ log) one = latest_taken log one
   latest_taken (draw s p ∷ log) one = or_left (eqb p p) _ (eq-eqb p p refl)
@@ -22,12 +22,12 @@ module _ (S : ℕ) where
   latest_taken (disclose s k o ∷ log) one = latest_taken log one
 
   -- so was that of every draw
-  drawn_taken : (d : ℕ) (log : Log) → d < draws log → some (draws_place (drawn S d log).place) log ≡ true
+  drawn_taken : (d : ℕ) (log : Log) → d < draws log → list_any (draws_place (drawn S d log).place) log ≡ true
   drawn_taken d log below =
       let rest = up_to_earlier d log in
       let test = draws_place (drawn S d log).place in
       let found = latest_taken (up_to d log) (omega (arith, up_to_draws d log below)) in
-      ap (some test) rest.1 ∙ some_earlier test rest.0 (up_to d log) found
+      ap (list_any test) rest.1 ∙ some_earlier test rest.0 (up_to d log) found
 
   -- the place of a draw before the last is the same without the newest move
   place_kept : (d : ℕ) (x : Move) (log : Log) → d + 1 < draws (x ∷ log) → (drawn S d log).place ≡ (drawn S d (x ∷ log)).place
@@ -55,7 +55,7 @@ module _ (m : CipherMeaning) (S D : ℕ) where
   latest_differs d (lock s deck ∷ log) all below same = latest_differs d log all.1 below (place_kept S d (lock s deck) log below ∙ same)
   latest_differs d (draw s p ∷ log) all below same =
       let again = place_kept S d (draw s p) log below ∙ same in
-      let taken = subst (λ (q : ℕ). some (draws_place q) log ≡ true) again (drawn_taken S d log (omega arith)) in
+      let taken = subst (λ (q : ℕ). list_any (draws_place q) log ≡ true) again (drawn_taken S d log (omega arith)) in
       true≢false (sym taken ∙ all.0.free)
   latest_differs d (share s v ∷ log) all below same = latest_differs d log all.1 below (place_kept S d (share s v) log below ∙ same)
   latest_differs d (abandon ∷ log) all below same = latest_differs d log all.1 below (place_kept S d abandon log below ∙ same)

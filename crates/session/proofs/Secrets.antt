@@ -2,12 +2,12 @@
 use Rattle.std.proofs.Common.{◌≡◌, ℕ, suc, ◌<◌, ◌≤◌, Bool, true, false, cond, ◌||◌, eqb, ltb, List, [], ◌∷◌, length, sym, refl, ap, ◌∙◌, arith}
 use Rattle.std.proofs.lemmas.List.Sums.{count_by-le-length}
 use Rattle.std.proofs.lemmas.Bool.{false≢true}
+use Rattle.std.specs.List.{list_any}
 use Rattle.cipher.specs.Cipher.{CipherMeaning, Lawful}
 use Rattle.permutation.specs.Permutation.{Permutation}
 use Rattle.permutation.proofs.Counting.{lower_from_held}
 use Rattle.permutation.proofs.Permutations.{permutes_decides}
 use Rattle.table.specs.State.{lock, draw, share, abandon, close, show, disclose}
-use Rattle.table.specs.Rules.{some}
 use Rattle.verdict.specs.Log.{Log, Secret, disclosures, discloses_seat, secret}
 use Rattle.session.specs.Runs.{among}
 use Rattle.session.proofs.Accepted.{Accepted}
@@ -30,7 +30,7 @@ module _ (m : CipherMeaning) (D : ℕ) where
   newest_or_found false found x y newest rest either = rest either
 
   -- what a seat has disclosed is a lawful key and an order
-  pub disclosed_sound : (S r : ℕ) (log : Log) → Accepted m S D log → some (discloses_seat r) log ≡ true → SoundSecret (secret r log)
+  pub disclosed_sound : (S r : ℕ) (log : Log) → Accepted m S D log → list_any (discloses_seat r) log ≡ true → SoundSecret (secret r log)
   disclosed_sound S r [] all found = absurd (false≢true found)
   disclosed_sound S r (lock s deck ∷ log) all found = disclosed_sound S r log all.1 found
   disclosed_sound S r (draw s p ∷ log) all found = disclosed_sound S r log all.1 found
@@ -44,7 +44,7 @@ module _ (m : CipherMeaning) (D : ℕ) where
         long = all.0.long;
         permutation = (permutes_decides o).0 all.0.order;
       } in
-      let before = some (discloses_seat r) log in
+      let before = list_any (discloses_seat r) log in
       newest_or_found (eqb s r) before (record { key = k; order = o }) (secret r log) newest (disclosed_sound S r log all.1) found
 
 -- the seats that have disclosed, the newest first
@@ -69,7 +69,7 @@ disclosers_length (close ∷ log) = disclosers_length log
 disclosers_length (show d c ∷ log) = disclosers_length log
 disclosers_length (disclose s k o ∷ log) = ap suc (disclosers_length log)
 
-among_disclosers : (r : ℕ) (log : Log) → some (discloses_seat r) log ≡ among r (disclosers log)
+among_disclosers : (r : ℕ) (log : Log) → list_any (discloses_seat r) log ≡ among r (disclosers log)
 unfolding disclosers
 among_disclosers r [] = refl
 among_disclosers r (lock s deck ∷ log) = among_disclosers r log
@@ -81,7 +81,7 @@ among_disclosers r (show d c ∷ log) = among_disclosers r log
 among_disclosers r (disclose s k o ∷ log) = ap (λ (b : Bool). eqb s r || b) (among_disclosers r log)
 
 -- where every seat has disclosed, there are as many disclosures as seats
-pub disclosed_enough : (S : ℕ) (log : Log) → ((s : ℕ) → s < S → some (discloses_seat s) log ≡ true) → S ≤ disclosures log
+pub disclosed_enough : (S : ℕ) (log : Log) → ((s : ℕ) → s < S → list_any (discloses_seat s) log ≡ true) → S ≤ disclosures log
 disclosed_enough S log all =
     let each = λ (s : ℕ) (seat : s < S). among_count s (disclosers log) (sym (among_disclosers s log) ∙ all s seat) in
     let few = count_by-le-length (λ (s : ℕ). ltb s S) (disclosers log) in

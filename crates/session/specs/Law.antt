@@ -1,9 +1,10 @@
 -- The law over whole runs: what holds of the entries of any list of calls, and of any two.
 use Rattle.std.specs.Prelude.{◌≡◌, ℕ, ◌<◌, ◌≤◌, true, false, cond, List, [], ◌∷◌, ◌++◌, map, take, Ok, None, ◌==◌, ◌≢◌}
+use Rattle.std.specs.List.{list_any}
 use Rattle.cipher.specs.Cipher.{CipherMeaning}
 use Rattle.permutation.specs.Permutation.{count, upto, composed_at}
 use Rattle.table.specs.State.{Move, show}
-use Rattle.table.specs.Rules.{some, within_limits}
+use Rattle.table.specs.Rules.{within_limits}
 use Rattle.verdict.specs.Log.{Log, draws, entries, drawn, secret, discloses_seat}
 use Rattle.verdict.specs.Honesty.{Told, first_deck, told_by, honest, accused, dishonest}
 use Rattle.verdict.specs.declared.Kind.{Kind}
@@ -24,7 +25,7 @@ module _ (m : CipherMeaning) (S D : ℕ) (log : Log) where
   told = told_by S (first_deck m D) log
 
   abbrev pub AllDisclosed : Type 0
-  AllDisclosed = (s : ℕ) → s < S → some (discloses_seat s) log ≡ true
+  AllDisclosed = (s : ℕ) → s < S → list_any (discloses_seat s) log ≡ true
 
   pub record CleanTable : Type 0 where
     pub disclosed : AllDisclosed

@@ -1,9 +1,10 @@
 -- A list of calls made on a new table, by the rules alone.
 use Rattle.std.specs.Prelude.{ℕ, Bool, List, [], ◌∷◌, Ok, Err, Result, nat_eq}
+use Rattle.std.specs.List.{list_any}
 use Rattle.cipher.specs.Cipher.{CipherMeaning}
 use Rattle.table.specs.State.{Move}
 use Rattle.table.specs.View.{View}
-use Rattle.table.specs.Rules.{some, Answer}
+use Rattle.table.specs.Rules.{Answer}
 use Rattle.table.specs.ViewRules.{judged, audit_rules}
 use Rattle.table.specs.declared.fault.TableFault.{TableFault}
 use Rattle.verdict.specs.Log.{Log, locks, draws, disclosures, entries, phase_in, drawn, draws_place, shows_draw, discloses_seat}
@@ -18,7 +19,7 @@ pub data Asked : Type 0 where
 
 -- some seat of the list is this one
 abbrev pub among : ℕ → List ℕ → Bool
-among s seats = some (λ r. nat_eq r s) seats
+among s seats = list_any (λ r. nat_eq r s) seats
 
 -- what the rules look at, from the moves accepted so far
 abbrev pub view : ℕ → ℕ → Log → View
@@ -33,9 +34,9 @@ view S D log = record {
   end = λ d. (drawn S d log).end;
   drawer = λ d. (drawn S d log).drawer;
   has_shared = λ d s. among s (drawn S d log).sharers;
-  shown = λ d. some (shows_draw d) log;
-  taken = λ p. some (draws_place p) log;
-  has_disclosed = λ s. some (discloses_seat s) log;
+  shown = λ d. list_any (shows_draw d) log;
+  taken = λ p. list_any (draws_place p) log;
+  has_disclosed = λ s. list_any (discloses_seat s) log;
 }
 
 -- the answer as one of a list

@@ -37,10 +37,10 @@ moves_fit seats cards locked disclosed draws phase two step few h fewer =
 pub draws_count : (t : Table) → vec_len t.held.draws ≤ 52
 draws_count t = omega (arith, t.cards_most, t.held.draws.ok.0, different_few (λ (e : DrawRecord). e.place) t.held.cards (vec_items t.held.draws) t.places_different)
 
-disclosures_few : (t : Table) → vec_len t.held.disclosures ≤ t.held.seats
+pub disclosures_few : (t : Table) → vec_len t.held.disclosures ≤ t.held.seats
 disclosures_few t = omega (arith, t.held.disclosures.ok.0, different_few (λ (e : Disclosure). e.seat) t.held.seats (vec_items t.held.disclosures) t.disclosures_different)
 
-draws_few : (t : Table) → length (vec_items t.held.draws) ≤ t.held.cards
+pub draws_few : (t : Table) → length (vec_items t.held.draws) ≤ t.held.cards
 draws_few t = different_few (λ (e : DrawRecord). e.place) t.held.cards (vec_items t.held.draws) t.places_different
 
 -- a table in which one draw is changed by one move more

@@ -4,11 +4,9 @@ use Rattle.std.proofs.lemmas.List.Sums.{prefix_len-le-length}
 use Rattle.table.specs.Model.{state_of_record}
 use Rattle.table.specs.Sound.{most_moves}
 use Rattle.table.specs.declared.record.Disclosure.{Disclosure}
-use Rattle.table.specs.declared.record.DrawRecord.{DrawRecord}
 use Rattle.table.specs.declared.record.Record.{Record}
 use Rattle.table.specs.declared.table.Table.{Table}
-use Rattle.table.proofs.Different.{different_few}
-use Rattle.table.proofs.Soundness.{sound_table, moves_fit}
+use Rattle.table.proofs.Soundness.{disclosures_few, draws_few, moves_fit}
 use Rattle.verdict.specs.Tables.{disclosure_of}
 use Rattle.verdict.specs.Forward.{Bounded}
 
@@ -19,18 +17,13 @@ most_moves_few seats cards s c = omega (arith, mul-le-mul_right (seats + 1) c)
 pub bounded : (t : Table) → Bounded t.held
 bounded t =
     let r = t.held in
-    let s = sound_table t in
-    let draws_few = different_few (λ (d : DrawRecord). d.place) r.cards (vec_items r.draws) s.places_different in
-    let disclosures_few : vec_len r.disclosures ≤ r.seats =
-    omega (arith, r.disclosures.ok.0, different_few (λ (d : Disclosure). d.seat) r.seats (vec_items r.disclosures) s.disclosures_different)
-    in
     let moves_few =
-    moves_fit r.seats r.cards r.locked (vec_len r.disclosures) (vec_items r.draws) r.phase s.seats_least s.step disclosures_few s.draws_fair draws_few
+    moves_fit r.seats r.cards r.locked (vec_len r.disclosures) (vec_items r.draws) r.phase t.seats_least t.step (disclosures_few t) t.draws_fair (draws_few t)
     in
     record {
-      cards_most = s.cards_most;
-      disclosures_most = omega (arith, s.seats_most, disclosures_few);
-      moves_most = omega (arith, s.moves_long, moves_few, most_moves_few r.seats r.cards s.seats_most s.cards_most);
+      cards_most = t.cards_most;
+      disclosures_most = omega (arith, t.seats_most, disclosures_few t);
+      moves_most = omega (arith, t.moves_long, moves_few, most_moves_few r.seats r.cards t.seats_most t.cards_most);
     }
 
 -- where the order that a seat disclosed begins
