@@ -8,7 +8,7 @@ use Rattle.permutation.specs.Permutation.{permutes}
 use Rattle.table.specs.State.{Move, lock, draw, share, abandon, close, show, disclose, is_dealt}
 use Rattle.table.specs.View.{View}
 use Rattle.table.specs.Rules.{Answer, check, seated, closable, within_limits}
-use Rattle.table.specs.ViewRules.{last, runs, view_entry, judged}
+use Rattle.table.specs.Rules.{last, runs, entry, judged}
 use Rattle.table.specs.declared.record.Phase.{Phase}
 use Rattle.table.specs.declared.record.Phase.TheVariants.{Locking, Dealing, Showdown, Audit}
 use Rattle.table.specs.declared.fault.TableFault.{TableFault}
@@ -119,7 +119,7 @@ module _ (m : CipherMeaning) (v : View) where
         seat = ltb-true s v.seats b.0;
         due = eqb-true s v.locked c.0;
         long = eqb-true (length deck) v.cards d.0;
-        values = (seated_passed s (deck_answer m 0 deck) (view_entry v) n d.1).0;
+        values = (seated_passed s (deck_answer m 0 deck) (entry v) n d.1).0;
       }
   passed (draw s p) n h =
       let a = check_passed (eqb (phase_number v.phase) 1) _ _ n h in

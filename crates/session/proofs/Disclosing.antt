@@ -7,7 +7,7 @@ use Rattle.std.specs.List.{prefix_len, list_any}
 use Rattle.std.proofs.lemmas.List.Folds.{position_or_len_push}
 use Rattle.cipher.specs.Cipher.{CipherMeaning}
 use Rattle.table.specs.State.{lock, draw, share, abandon, close, show, disclose}
-use Rattle.table.specs.Rules.{has_disclosed}
+use Rattle.table.specs.View.{has_disclosed}
 use Rattle.table.specs.declared.record.Disclosure.{Disclosure}
 use Rattle.verdict.specs.Log.{Log, discloses_seat, secret, Secret}
 use Rattle.verdict.specs.Tables.{part, no_disclosure}

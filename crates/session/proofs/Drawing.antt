@@ -6,7 +6,8 @@ use Rattle.std.proofs.lemmas.List.{get_or_past}
 use Rattle.std.specs.List.{list_any}
 use Rattle.cipher.specs.Cipher.{CipherMeaning}
 use Rattle.table.specs.State.{Move, lock, draw, share, abandon, close, show, disclose, draw_at, last_draw, no_draw, begun, shared_by, abandoned, revealed, is_running, is_dealt}
-use Rattle.table.specs.Rules.{taken, within_limits}
+use Rattle.table.specs.Rules.{within_limits}
+use Rattle.table.specs.View.{taken}
 use Rattle.table.specs.declared.record.DrawRecord.{DrawRecord}
 use Rattle.table.specs.declared.record.End.TheVariants.{Running, Dealt}
 use Rattle.table.specs.declared.record.Phase.TheVariants.{Dealing}

@@ -4,7 +4,7 @@ use Rattle.cipher.specs.Cipher.{CipherMeaning}
 use Rattle.table.specs.State.{lock, draw, share, abandon, close, show, disclose, State}
 use Rattle.table.specs.View.{view_of}
 use Rattle.table.specs.Rules.{within_limits}
-use Rattle.table.specs.ViewRules.{audit_rules}
+use Rattle.table.specs.Rules.{audit_rules}
 use Rattle.table.specs.declared.record.Event.{Event}
 use Rattle.verdict.specs.Log.{Log, locks, disclosures, secret}
 use Rattle.verdict.specs.Honesty.{first_deck, told_by, verdict}

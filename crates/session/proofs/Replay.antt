@@ -3,7 +3,8 @@ use Rattle.std.proofs.Common.{◌≡◌, ℕ, suc, ◌+◌, ◌*◌, Bool, true,
 use Rattle.std.proofs.lemmas.List.{length_push}
 use Rattle.cipher.specs.Cipher.{CipherMeaning}
 use Rattle.table.specs.State.{Move, lock, draw, share, abandon, close, show, disclose, State, empty_table, next, phase_after}
-use Rattle.table.specs.Rules.{closes, entry_number, closable}
+use Rattle.table.specs.Rules.{closable}
+use Rattle.table.specs.View.{closes, entry_number}
 use Rattle.table.specs.declared.record.Phase.{Phase}
 use Rattle.table.specs.declared.record.Phase.TheVariants.{Locking, Dealing, Showdown, Audit}
 use Rattle.verdict.specs.Log.{Log, locks, draws, disclosures, entries, phase_in}

@@ -3,9 +3,9 @@ use Rattle.std.proofs.Common.{◌≡◌, ℕ, ◌+◌, ◌<◌, true, List, [], 
 use Rattle.std.proofs.lemmas.List.{map_more}
 use Rattle.cipher.specs.Cipher.{CipherMeaning}
 use Rattle.table.specs.State.{Move, lock, draw, share, abandon, close, show, disclose, State}
-use Rattle.table.specs.View.{View, view_of}
+use Rattle.table.specs.View.{View}
 use Rattle.table.specs.Rules.{Answer, judge, after, within_limits}
-use Rattle.table.specs.ViewRules.{judged}
+use Rattle.table.specs.Rules.{judged}
 use Rattle.table.specs.declared.fault.TableFault.{TableFault}
 use Rattle.verdict.specs.Log.{Log}
 use Rattle.session.specs.Runs.{Asked, move, audit, view, reply, joined, answer, with_call, answers, accepted}
@@ -16,16 +16,6 @@ use Rattle.session.specs.declared.Reply.TheVariants.{Entered, Audited}
 use Rattle.session.proofs.Accepted.{Accepted, run_accepted}
 use Rattle.session.proofs.Replay.{replay}
 use Rattle.session.proofs.Kept.{view_kept, audit_kept}
-
--- a state is judged as its view is
-judge_viewed : (m : CipherMeaning) (t : State) (x : Move) → judge m t x ≡ judged m (view_of t) x
-judge_viewed m t (lock s deck) = refl
-judge_viewed m t (draw s p) = refl
-judge_viewed m t (share s v) = refl
-judge_viewed m t abandon = refl
-judge_viewed m t close = refl
-judge_viewed m t (show d c) = refl
-judge_viewed m t (disclose s k o) = refl
 
 module _ (m : CipherMeaning) (S D : ℕ) where
   -- one call more
@@ -39,7 +29,7 @@ module _ (m : CipherMeaning) (S D : ℕ) where
 
   module _ (limits : within_limits S D ≡ true) (log : Log) (all : Accepted m S D log) where
     judge_kept : (x : Move) → judge m (replay S D log) x ≡ judged m (view S D log) x
-    judge_kept x = judge_viewed m (replay S D log) x ∙ ap (λ (v : View). judged m v x) (view_kept m S D limits log all)
+    judge_kept x = ap (λ (v : View). judged m v x) (view_kept m S D limits log all)
 
     answer_kept : (c : Asked) → step_answer m (replay S D log) c ≡ answer m S D log c
     answer_kept (move x) = ap (reply Entered) (judge_kept x)

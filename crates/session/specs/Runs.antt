@@ -5,7 +5,7 @@ use Rattle.cipher.specs.Cipher.{CipherMeaning}
 use Rattle.table.specs.State.{Move}
 use Rattle.table.specs.View.{View}
 use Rattle.table.specs.Rules.{Answer}
-use Rattle.table.specs.ViewRules.{judged, audit_rules}
+use Rattle.table.specs.Rules.{judged, audit_rules}
 use Rattle.table.specs.declared.fault.TableFault.{TableFault}
 use Rattle.verdict.specs.Log.{Log, locks, draws, disclosures, entries, phase_in, drawn, draws_place, shows_draw, discloses_seat}
 use Rattle.verdict.specs.Honesty.{first_deck, told_by, verdict}

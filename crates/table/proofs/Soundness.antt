@@ -4,7 +4,8 @@ use Rattle.std.proofs.lemmas.Bool.{ltb-true, lt-ltb, eqb-true, eq-eqb, false≢t
 use Rattle.std.proofs.lemmas.List.{get_or_default, length_push}
 use Rattle.table.specs.State.{no_draw, draw_at, phase_after}
 use Rattle.table.specs.Model.{state_of}
-use Rattle.table.specs.Rules.{closes, closable, taken, has_disclosed}
+use Rattle.table.specs.Rules.{closable}
+use Rattle.table.specs.View.{closes, taken, has_disclosed}
 use Rattle.table.specs.Sound.{in_step, fair_end, fair, different, moves_of, draw_moves, most_moves, Continues}
 use Rattle.table.specs.declared.table.Table.{Table}
 use Rattle.table.specs.declared.record.DrawRecord.{DrawRecord}

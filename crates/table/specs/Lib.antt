@@ -1,9 +1,8 @@
 pub mod Phases
 pub mod Refusals
 pub mod State
-pub mod Rules
 pub mod View
-pub mod ViewRules
+pub mod Rules
 pub mod Sound
 pub mod Model
 pub mod Calls

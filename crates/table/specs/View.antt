@@ -1,9 +1,30 @@
 -- What the rules look at, and how a table shows it.
-use Rattle.std.specs.Prelude.{ℕ, Bool, false, length, slice_index_or}
+use Rattle.std.specs.Prelude.{ℕ, ◌-◌, Bool, false, List, length, nat_eq, slice_index_or}
+use Rattle.std.specs.List.{list_any}
 use Rattle.table.specs.State.{State, draw_at}
-use Rattle.table.specs.Rules.{taken, has_disclosed, entry_number}
+use Rattle.table.specs.declared.record.DrawRecord.{DrawRecord}
+use Rattle.table.specs.declared.record.Disclosure.{Disclosure}
 use Rattle.table.specs.declared.record.End.{End}
 use Rattle.table.specs.declared.record.Phase.{Phase}
+use Rattle.table.specs.declared.record.Phase.TheVariants.{Locking, Dealing, Showdown, Audit}
+
+-- a draw, running or ended, took the place
+abbrev pub taken : List DrawRecord → ℕ → Bool
+taken draws p = list_any (λ d. nat_eq d.place p) draws
+
+abbrev pub has_disclosed : List Disclosure → ℕ → Bool
+has_disclosed disclosures s = list_any (λ d. nat_eq d.seat s) disclosures
+
+-- how many closes there were
+abbrev pub closes : Phase → ℕ
+closes Locking = 0
+closes Dealing = 0
+closes Showdown = 1
+closes Audit = 2
+
+-- the number of the next entry: every move but a close makes one
+abbrev pub entry_number : State → ℕ
+entry_number t = length t.moves - closes t.phase
 
 pub record View : Type 0 where
   pub seats : ℕ

@@ -3,7 +3,8 @@ ghost use Rattle.std.specs.Prelude.{◌≡◌, ◌<◌, true, vec_len};
 ghost use Rattle.std.specs.Fn.{FnOnceTakesAtMut, FnOnceReturnsAtMut};
 ghost use Rattle.table.specs.declared.record.DrawRecord.{DrawRecord};
 ghost use Rattle.table.specs.State.{draw_at, with_draw, shared_by, lock, draw, share, abandon, close, show, disclose};
-ghost use Rattle.table.specs.Rules.{entry_number, after, closable, with_seat, lock_rules, disclose_rules, draw_rules, share_rules, abandon_rules, close_rules, show_rules};
+ghost use Rattle.table.specs.Rules.{after, closable, lock_rules, disclose_rules, draw_rules, share_rules, abandon_rules, close_rules, show_rules};
+ghost use Rattle.table.specs.View.{entry_number, view_of};
 ghost use Rattle.table.specs.Sound.{Continues};
 ghost use Rattle.table.specs.Model.{state_of};
 ghost use Rattle.table.specs.declared.record.Phase.TheVariants.{Locking, Dealing};
@@ -50,7 +51,7 @@ impl Table {
     }
 
     pub(crate) fn enter_abandon(&mut self) -> Result<usize, TableFault>
-        ensures answer { result ≡ abandon_rules (state_of self.old) }
+        ensures answer { result ≡ abandon_rules (view_of (state_of self.old)) }
         ensures made { state_of self.new ≡ after result (state_of self.old) abandon }
     {
         let running = self.running().ok_or(TableFault::NoDrawRunning)?;
@@ -64,7 +65,7 @@ impl Table {
         seat: u8,
         value: u32,
     ) -> Result<usize, TableFault>
-        ensures answer { result ≡ share_rules (state_of self.old) (C.Cipher.meaning cipher.now) seat value }
+        ensures answer { result ≡ share_rules (view_of (state_of self.old)) (C.Cipher.meaning cipher.now) seat value }
         ensures made { state_of self.new ≡ after result (state_of self.old) (share seat value) }
     {
         let running = self.running().ok_or(TableFault::NoDrawRunning)?;
@@ -96,7 +97,7 @@ impl Table {
     }
 
     pub(crate) fn enter_show(&mut self, draw: u8, card: u8) -> Result<usize, TableFault>
-        ensures answer { result ≡ show_rules (state_of self.old) draw card }
+        ensures answer { result ≡ show_rules (view_of (state_of self.old)) draw card }
         ensures made { state_of self.new ≡ after result (state_of self.old) (show draw card) }
     {
         let number = usize::from(draw);
@@ -119,7 +120,7 @@ impl Table {
 
     pub(crate) fn enter_draw(&mut self, seat: u8, place: u8) -> Result<usize, TableFault>
         requires { self.old.held.locked ≡ self.old.held.seats }
-        ensures answer { result ≡ draw_rules (state_of self.old) seat place }
+        ensures answer { result ≡ draw_rules (view_of (state_of self.old)) seat place }
         ensures made { state_of self.new ≡ after result (state_of self.old) (draw seat place) }
     {
         if let Some(running) = self.running() {
@@ -146,7 +147,7 @@ impl Table {
 
     pub(crate) fn enter_close(&mut self) -> Result<usize, TableFault>
         requires { closable self.old.held.phase ≡ true }
-        ensures answer { result ≡ close_rules (state_of self.old) }
+        ensures answer { result ≡ close_rules (view_of (state_of self.old)) }
         ensures made { state_of self.new ≡ after result (state_of self.old) close }
     {
         if let Some(running) = self.running() {
@@ -164,7 +165,7 @@ impl Table {
         deck: &[u32],
     ) -> Result<usize, TableFault>
         requires { self.old.held.phase ≡ Locking }
-        ensures answer { result ≡ lock_rules (state_of self.old) (C.Cipher.meaning cipher.now) seat deck.now }
+        ensures answer { result ≡ lock_rules (view_of (state_of self.old)) (C.Cipher.meaning cipher.now) seat deck.now }
         ensures made { state_of self.new ≡ after result (state_of self.old) (lock seat deck.now) }
     {
         if seat >= self.held.seats {
@@ -197,7 +198,7 @@ impl Table {
         key: u32,
         order: &[u8],
     ) -> Result<usize, TableFault>
-        ensures answer { result ≡ disclose_rules (state_of self.old) (C.Cipher.meaning cipher.now) seat key order.now }
+        ensures answer { result ≡ disclose_rules (view_of (state_of self.old)) (C.Cipher.meaning cipher.now) seat key order.now }
         ensures made { state_of self.new ≡ after result (state_of self.old) (disclose seat key order.now) }
     {
         if seat >= self.held.seats {

@@ -1,7 +1,7 @@
 // What a record tells of itself.
 ghost use Rattle.std.specs.Prelude.{◌≡◌, false, MatchOption};
 ghost use Rattle.table.specs.State.{running, Runs};
-ghost use Rattle.table.specs.Rules.{taken, has_disclosed};
+ghost use Rattle.table.specs.View.{taken, has_disclosed};
 ghost use Rattle.table.specs.Model.{state_of};
 
 use crate::record::{End, Record};

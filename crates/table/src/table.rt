@@ -1,6 +1,6 @@
 // The table: a record that only its calls can change.
 ghost use Rattle.std.specs.Prelude.{◌≡◌, ◌+◌, ◌*◌, ◌≤◌, true, vec_len, vec_capacity};
-ghost use Rattle.table.specs.Rules.{closes};
+ghost use Rattle.table.specs.View.{closes};
 ghost use Rattle.table.specs.Sound.{in_step, fair, different, draw_moves, most_moves};
 
 use crate::record::Record;

@@ -4,7 +4,7 @@ use Rattle.std.specs.List.{prefix_len}
 use Rattle.cipher.specs.Cipher.{CipherMeaning}
 use Rattle.table.specs.State.{State, Move, lock, draw, share, abandon, close, show, disclose, draw_at}
 use Rattle.table.specs.View.{view_of}
-use Rattle.table.specs.ViewRules.{audit_rules}
+use Rattle.table.specs.Rules.{audit_rules}
 use Rattle.table.specs.declared.record.Disclosure.{Disclosure}
 use Rattle.table.specs.declared.record.Event.{Event}
 use Rattle.table.specs.declared.record.Event.TheVariants as event
