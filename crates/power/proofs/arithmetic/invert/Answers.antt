@@ -1,17 +1,8 @@
 use Rattle.std.proofs.Common.{arith, rules}
 use Rattle.std.proofs.lemmas.Bool.Decides.{nat_tests}
-use Rattle.power.specs.Euclid.{start, next_fits, step, none_answer, some_answer}
+use Rattle.power.specs.Euclid.{step, none_answer, some_answer}
 use Rattle.power.proofs.arithmetic.invert.Goals as goal
 use Rattle.power.proofs.arithmetic.invert.Goals.{then-positive, else-positive}
-
-pub loop-low-init : goal.loop-low-init
-loop-low-init c = search (rules, start)
-
-pub overflow_mul-next : goal.overflow_mul-next
-overflow_mul-next c = search (rules, next_fits)
-
-pub overflow_add-next : goal.overflow_add-next
-overflow_add-next c = record { fits = omega (arith, next_fits _ _ _ _ _ _ _ c.loop-low-test.true c.loop-low.invariant, c.ranges.n.fits) }
 
 pub loop-low-preserved : goal.loop-low-preserved
 loop-low-preserved c = search (rules, step)
