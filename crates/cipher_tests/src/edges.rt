@@ -56,14 +56,31 @@ fn binary_edges(rt: HostRuntime) {
 
 #[test]
 fn refusals_as_told(rt: HostRuntime) {
-    let value = CipherFault::NotValue { place: 0, value: 9 };
-    assert_eq!(rt; Refusal::from(value), Refusal::with_both(5, 0, 9));
+    let value = Refusal::from(CipherFault::NotValue { place: 0, value: 9 });
     assert_eq!(rt;
-        Refusal::from(CipherFault::NoCard(52)),
-        Refusal::with(14, 52)
+        value,
+        Refusal {
+            number: 5,
+            first: Some(0),
+            second: Some(9),
+        }
     );
+    let card = Refusal::from(CipherFault::NoCard(52));
     assert_eq!(rt;
-        Refusal::from(CipherFault::UnlawfulKey(7)),
-        Refusal::with(16, 7)
+        card,
+        Refusal {
+            number: 14,
+            first: Some(52),
+            second: None,
+        }
+    );
+    let key = Refusal::from(CipherFault::UnlawfulKey(7));
+    assert_eq!(rt;
+        key,
+        Refusal {
+            number: 16,
+            first: Some(7),
+            second: None,
+        }
     );
 }
