@@ -10,7 +10,7 @@ const FACTOR: u64 = 16807;
 
 const MODULUS: u64 = 2147483647;
 
-// The largest start. From 1 to it, no start draws 0.
+// The largest start, since the modulus draws 0.
 pub(crate) const LAST_START: u32 = (MODULUS - 1) as u32;
 
 // The number drawn after z.
@@ -27,6 +27,7 @@ pub(crate) fn next_lawful<C: Cipher>(cipher: &C, first: u32) -> u32
 {
     let last = cipher.last_key();
     let first = if first > last { 1 } else { first };
+    // The last key is lawful, so it is the next where none before it is.
     (first..last)
         .find(|key| cipher.is_lawful(*key))
         .unwrap_or(last)
