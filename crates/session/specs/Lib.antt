@@ -1,3 +1,4 @@
 pub mod Runs
 pub mod Steps
 pub mod Law
+pub mod Printed

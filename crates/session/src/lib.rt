@@ -8,6 +8,7 @@ ghost use Rattle.session.specs.Law.{RunsLaw};
 
 use cipher::Cipher;
 use std::alloc::Global;
+use std::fmt;
 use table::call::Call;
 use table::fault::TableFault;
 use table::table::Table;
@@ -18,6 +19,19 @@ use verdict::{Finding, audit};
 pub enum Step {
     Move(Call),
     Audit,
+}
+
+impl fmt::Display for Step {
+    ghost use Rattle.session.specs.Printed.{printed};
+
+    ghost output = { printed };
+
+    fn fmt<W: fmt::Write>(&self, f: &mut fmt::Formatter<W>) -> fmt::Result {
+        match self {
+            Step::Move(call) => write!(f, "{call}"),
+            Step::Audit => write!(f, "Audit"),
+        }
+    }
 }
 
 // A new table's seats and cards, and the calls to be made on it.
