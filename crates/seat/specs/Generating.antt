@@ -4,7 +4,7 @@ use Rattle.std.proofs.Common.{sym, ap, ap₂, subst, ◌∙◌, inl, inr, mod-lt
 use Rattle.std.specs.List.{swap}
 use Rattle.std.proofs.lemmas.List.FromFn.{length-range_with_len}
 use Rattle.std.proofs.lemmas.List.Edits.{length-swap}
-use Rattle.std.proofs.lemmas.Bool.{cond-true, cond-false, cases_Bool, ltb-false, leb-true, and_parts}
+use Rattle.std.proofs.lemmas.Bool.{cond-true, cond-false, cases_Bool, ltb-false, leb-true, and_parts, true≢false}
 use Rattle.cipher.specs.Cipher.{CipherMeaning, CipherLaws, Lawful}
 use Rattle.permutation.specs.Permutation.{Permutation, upto}
 use Rattle.permutation.proofs.Permutations.{upto_permutation, exchanged_permutation, permutes_decides}
@@ -12,12 +12,20 @@ use Rattle.seat.specs.Seat.{SeatLaws}
 use Rattle.seat.specs.Generator.{drawn, climbed, lawful_from, shuffled, generator_order, fit, generator_seat}
 
 -- climbing stops at a number that passes
-climbed_here : (test : ℕ → Bool) (n k : ℕ) → test k ≡ true → climbed test n k ≡ k
+pub climbed_here : (test : ℕ → Bool) (n k : ℕ) → test k ≡ true → climbed test n k ≡ k
 unfolding climbed
 climbed_here test zero k t = refl
 climbed_here test (suc n) k t = cond-true (test k) k _ t
 
--- and goes on past d numbers that do not
+-- and goes on from one that does not
+pub climbed_on : (test : ℕ → Bool) (last k : ℕ) → k < last → test k ≡ false → climbed test (last - k) k ≡ climbed test (last - (k + 1)) (k + 1)
+unfolding climbed
+climbed_on test last k below t =
+    let one_more : last - k ≡ suc (last - (k + 1)) = omega arith in
+    let next : suc k ≡ k + 1 = omega arith in
+    ap (λ (n : ℕ). climbed test n k) one_more ∙ cond-false (test k) k _ t ∙ ap (climbed test (last - (k + 1))) next
+
+-- and past d of them
 climbed_past : (test : ℕ → Bool) (d n k : ℕ) → ((j : ℕ) → k ≤ j → j < k + d → test j ≡ false) → climbed test (d + n) k ≡ climbed test n (k + d)
 unfolding climbed
 climbed_past test zero n k fail =
@@ -68,6 +76,12 @@ module _ (m : CipherMeaning) (laws : CipherLaws m) where
       let first = cond (nat_lt m.last_key number) 1 number in
       let whole : first + (m.last_key - first) ≡ m.last_key = omega (arith, start_most number) in
       climbed_passes m.lawful (m.last_key - first) first (subst (λ (x : ℕ). Lawful m x) (sym whole) laws.last_lawful)
+
+  -- short of the last key, a key that is not lawful is not the last
+  pub below_last : (k : ℕ) → k ≤ m.last_key → m.lawful k ≡ false → k < m.last_key
+  below_last k most t =
+      let other : k ≡ m.last_key → ⊥ = λ same. true≢false (sym (subst (λ (x : ℕ). Lawful m x) (sym same) laws.last_lawful) ∙ t) in
+      omega arith
 
 shuffled_order : (n z : ℕ) (order : List ℕ) → n < length order → Permutation order → (length (shuffled n z order) ≡ length order) × Permutation (shuffled n z order)
 unfolding shuffled

@@ -5,7 +5,7 @@ use std::test::Fail;
 
 #[test]
 fn draws_refused(rt: HostRuntime) -> Result<(), Fail> {
-    let mut table = locked(&rt, rt.alloc())?;
+    let mut table = locked(&rt)?;
     refused(&rt, table.draw(2, 9), Refusal::with(2, 2));
     refused(&rt, table.draw(1, 3), Refusal::with(6, 3));
     accepted(&rt, table.draw(1, 1), 2);
@@ -20,7 +20,7 @@ fn draws_refused(rt: HostRuntime) -> Result<(), Fail> {
 
 #[test]
 fn shares_refused(rt: HostRuntime) -> Result<(), Fail> {
-    let mut table = locked(&rt, rt.alloc())?;
+    let mut table = locked(&rt)?;
     refused(&rt, table.share(&CIPHER, 0, 7), Refusal::alone(9));
     refused(&rt, table.abandon(), Refusal::alone(9));
     accepted(&rt, table.draw(1, 1), 2);

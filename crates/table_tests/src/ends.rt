@@ -22,7 +22,7 @@ fn second_share(rt: HostRuntime) -> Result<(), Fail> {
 
 #[test]
 fn shows_refused(rt: HostRuntime) -> Result<(), Fail> {
-    let mut table = dealt(&rt, rt.alloc())?;
+    let mut table = dealt(&rt)?;
     refused(&rt, table.show(2, 9), Refusal::with(12, 2));
     refused(&rt, table.show(255, 9), Refusal::with(12, 255));
     refused(&rt, table.show(0, 3), Refusal::with(14, 3));
@@ -34,7 +34,7 @@ fn shows_refused(rt: HostRuntime) -> Result<(), Fail> {
 
 #[test]
 fn disclosures_refused(rt: HostRuntime) -> Result<(), Fail> {
-    let mut table = dealt(&rt, rt.alloc())?;
+    let mut table = dealt(&rt)?;
     accepted(&rt, table.close(), 3);
     refused(&rt, table.close(), Refusal::with(1, 3));
     refused(&rt, table.disclose(&CIPHER, 2, 7, &[]), Refusal::with(2, 2));

@@ -4,7 +4,6 @@ use cipher::Cipher;
 use power::power_cipher::PowerCipher;
 use prime::PrimeField;
 use refusal::Refusal;
-use std::alloc::Global;
 use std::process::Abort;
 use std::test::Fail;
 use table::fault::TableFault;
@@ -26,16 +25,16 @@ pub fn refused(rt: &impl Abort, answer: Result<usize, TableFault>, refusal: Refu
     assert_eq!(rt; answer.map_err(Refusal::from), Err(refusal));
 }
 
-pub fn locked(rt: &impl Abort, heap: Global) -> Result<Table, Fail> {
-    let mut table = Table::start(heap, 2, 3)?;
+pub fn locked(rt: &(impl Abort + AllocGlobal)) -> Result<Table, Fail> {
+    let mut table = Table::start(rt.alloc(), 2, 3)?;
     accepted(rt, table.lock(&CIPHER, 0, &FIRST), 0);
     accepted(rt, table.lock(&CIPHER, 1, &SECOND), 1);
     Ok(table)
 }
 
 // Both draws are dealt, and the showdown is open.
-pub fn dealt(rt: &impl Abort, heap: Global) -> Result<Table, Fail> {
-    let mut table = locked(rt, heap)?;
+pub fn dealt(rt: &(impl Abort + AllocGlobal)) -> Result<Table, Fail> {
+    let mut table = locked(rt)?;
     accepted(rt, table.draw(1, 1), 2);
     accepted(rt, table.share(&CIPHER, 0, 282475249), 3);
     accepted(rt, table.draw(0, 0), 4);
@@ -46,7 +45,7 @@ pub fn dealt(rt: &impl Abort, heap: Global) -> Result<Table, Fail> {
 
 #[test]
 fn whole_hand(rt: HostRuntime) -> Result<(), Fail> {
-    let mut table = dealt(&rt, rt.alloc())?;
+    let mut table = dealt(&rt)?;
     accepted(&rt, table.show(0, 0), 6);
     accepted(&rt, table.show(1, 1), 7);
     accepted(&rt, table.close(), 3);
