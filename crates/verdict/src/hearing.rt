@@ -30,9 +30,8 @@ impl<C: Cipher> Hearing<'_, C> {
                 (honest, seat, Kind::Share)
             }
             Event::Show { draw, card } => {
-                let shown = self.draw_at(draw);
-                let seat = shown.seat;
-                let honest = self.honest_show(seat, shown.value, card);
+                let (seat, value) = self.drawn(draw);
+                let honest = self.honest_show(seat, value, card);
                 (honest, seat, Kind::Show)
             }
             Event::Draw { .. } | Event::Abandon | Event::Close | Event::Disclose { .. } => {

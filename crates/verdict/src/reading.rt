@@ -7,26 +7,14 @@ ghost use Rattle.verdict.specs.Forward.{deck_after};
 
 use crate::hearing::Hearing;
 use cipher::Cipher;
-use table::record::{DrawRecord, End};
-
-// What stands for a draw that there is not.
-const NO_DRAW: DrawRecord = DrawRecord {
-    seat: 0,
-    place: 0,
-    shared: [false; 8],
-    shares: 0,
-    value: 0,
-    end: End::Abandoned,
-    shown: false,
-};
 
 impl<C> Hearing<'_, C> {
-    // The draw of a number.
-    pub(crate) fn draw_at(&self, draw: u8) -> DrawRecord
-        ensures { result ≡ draw_at (state_of_record self.now.record.now) draw }
+    // Who drew, and the chain value.
+    pub(crate) fn drawn(&self, draw: u8) -> (u8, u32)
+        ensures { let d = draw_at (state_of_record self.now.record.now) draw in result ≡ (d.seat, d.value) }
     {
-        let draws = &self.record.draws;
-        draws.get(usize::from(draw)).copied().unwrap_or(NO_DRAW)
+        let drawn = self.record.draws.get(usize::from(draw));
+        drawn.map_or((0, 0), |d| (d.seat, d.value))
     }
 
     // Which of the disclosures is the seat's.
