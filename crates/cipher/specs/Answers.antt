@@ -11,6 +11,14 @@ lock_answer m k v = cond (m.lawful k) (cond (m.value v) (Ok (m.lock k v)) (Err (
 abbrev pub undo_answer : CipherMeaning → ℕ → Result ℕ CipherFault
 undo_answer m k = cond (m.lawful k) (Ok (m.undo k)) (Err (UnlawfulKey k))
 
+-- a lock taken off: the lock under the key's undo key
+abbrev pub under_undo : CipherMeaning → Result ℕ CipherFault → ℕ → Result ℕ CipherFault
+under_undo m (Ok undo) v = lock_answer m undo v
+under_undo m (Err fault) v = Err fault
+
+abbrev pub unlock_answer : CipherMeaning → ℕ → ℕ → Result ℕ CipherFault
+unlock_answer m k v = under_undo m (undo_answer m k) v
+
 abbrev pub code_answer : CipherMeaning → ℕ → Result ℕ CipherFault
 code_answer m c = cond (nat_lt c 52) (Ok (m.code c)) (Err (NoCard c))
 

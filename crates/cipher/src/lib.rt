@@ -6,7 +6,7 @@ pub mod fault;
 ghost use Rattle.std.specs.Prelude.{◌≡◌};
 ghost use Rattle.cipher.specs.Cipher.{CipherMeaning, CipherLaws};
 ghost use Rattle.cipher.specs.Decks.{deck_answer};
-ghost use Rattle.cipher.specs.Answers.{lock_answer, undo_answer, code_answer, Reads};
+ghost use Rattle.cipher.specs.Answers.{lock_answer, undo_answer, unlock_answer, code_answer, Reads};
 
 use fault::CipherFault;
 
@@ -42,6 +42,13 @@ pub trait Cipher {
         ensures { result ≡ (meaning self.now).mark };
 
     ghost lawful: { (s : Self) → CipherLaws (meaning s) };
+}
+
+// The value with the key's lock taken off: locked under the undo key.
+pub fn unlock<C: Cipher>(cipher: &C, key: u32, value: u32) -> Result<u32, CipherFault>
+    ensures { result ≡ unlock_answer (C.meaning cipher.now) key value }
+{
+    cipher.lock(cipher.undo_key(key)?, value)
 }
 
 // The card whose code the value is. A value that is still under a lock may be the code of

@@ -12,7 +12,7 @@ use blank::Blank;
 use fault::OrderFault;
 
 // No deck has more cards.
-const MOST_CARDS: usize = 52;
+pub const MOST_CARDS: usize = 52;
 
 // A byte is one of so many numbers.
 const BYTE_VALUES: usize = u8::MAX as usize + 1;

@@ -1,6 +1,6 @@
 // How a call and its answer are printed.
 ghost use Rattle.std.specs.Prelude.{◌++◌, Some, codes};
-ghost use Rattle.std.specs.Fmt.{◌++?◌};
+ghost use Rattle.std.specs.Fmt.{◌++?◌, WritesOnOk};
 ghost use Rattle.session.specs.Printed.{printed};
 ghost use Rattle.round.specs.Printed.{reply_printed};
 
@@ -10,27 +10,6 @@ use std::fmt;
 use table::call::Call;
 use table::fault::TableFault;
 
-// What a step answered. A close is answered by the phase that it began.
-#[derive(Clone, Copy)]
-struct PrintedReply<'a> {
-    step: &'a Step,
-    reply: &'a Result<Reply, TableFault>,
-}
-
-impl fmt::Display for PrintedReply<'_> {
-    ghost output = { λ answer. Some (reply_printed answer.step.now answer.reply.now) };
-
-    fn fmt<W: fmt::Write>(&self, f: &mut fmt::Formatter<W>) -> fmt::Result {
-        match (self.step, self.reply) {
-            (_, Err(fault)) => write!(f, "{}", Refusal::from(*fault)),
-            (Step::Move(Call::Close), Ok(Reply::Entered(phase))) => write!(f, "phase {phase}"),
-            (_, Ok(Reply::Entered(entry))) => write!(f, "entry {entry}"),
-            (_, Ok(Reply::Audited(None))) => f.write_str("clean"),
-            (_, Ok(Reply::Audited(Some(finding)))) => write!(f, "{finding}"),
-        }
-    }
-}
-
 // A step and what it answered.
 #[derive(Clone, Copy)]
 pub struct Line<'a> {
@@ -38,11 +17,27 @@ pub struct Line<'a> {
     pub reply: &'a Result<Reply, TableFault>,
 }
 
+impl Line<'_> {
+    // A close is answered by the phase that it began.
+    fn write_reply<W: fmt::Write>(&self, f: &mut fmt::Formatter<W>) -> fmt::Result
+        ensures { WritesOnOk W.write_str_gives f.old result (reply_printed self.now.step.now self.now.reply.now) f.new }
+    {
+        match (self.step, self.reply) {
+            (_, Err(fault)) => write!(f, "{}", Refusal::from(*fault)),
+            (Step::Move(Call::Close), Ok(Reply::Entered(phase))) => write!(f, "phase {phase}"),
+            (_, Ok(Reply::Entered(entry))) => write!(f, "entry {entry}"),
+            (_, Ok(Reply::Audited(None))) => write!(f, "clean"),
+            (_, Ok(Reply::Audited(Some(finding)))) => write!(f, "{finding}"),
+        }
+    }
+}
+
 impl fmt::Display for Line<'_> {
     ghost output = { λ line. printed line.step.now ++? Some (codes ": " ++ reply_printed line.step.now line.reply.now ++ codes ".") };
 
     fn fmt<W: fmt::Write>(&self, f: &mut fmt::Formatter<W>) -> fmt::Result {
-        let Line { step, reply } = *self;
-        write!(f, "{step}: {}.", PrintedReply { step, reply })
+        write!(f, "{}: ", self.step)?;
+        self.write_reply(f)?;
+        write!(f, ".")
     }
 }

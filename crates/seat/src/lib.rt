@@ -14,12 +14,10 @@ ghost use Rattle.permutation.specs.Permutation.{permutes};
 ghost use Rattle.seat.specs.Seat.{SeatMeaning, SeatLaws};
 ghost use Rattle.seat.specs.Answers.{order_answer, lock_answer, unlock_answer, filled};
 
-use cipher::{CARDS, Cipher};
+use cipher::{Cipher, unlock};
 use fault::SeatFault;
 use locks::lock_deck;
-
-// The largest size of a seat.
-pub const MOST_CARDS: usize = CARDS as usize;
+use permutation::MOST_CARDS;
 
 pub trait Seat {
     ghost meaning: { Self → SeatMeaning };
@@ -55,8 +53,7 @@ pub trait Seat {
     fn unlock<C: Cipher>(&self, cipher: &C, value: u32) -> Result<u32, SeatFault>
         ensures { result ≡ unlock_answer (C.Cipher.meaning cipher.now) (meaning self.now) value }
     {
-        let undo = cipher.undo_key(self.key(cipher))?;
-        Ok(cipher.lock(undo, value)?)
+        Ok(unlock(cipher, self.key(cipher), value)?)
     }
 
     ghost seated: { (s : Self) → SeatLaws (meaning s) };

@@ -11,11 +11,11 @@ use crate::any::AnySeat;
 use crate::fault::SeatFault;
 use crate::generator::GeneratorSeat;
 use crate::keyed::KeyedSeat;
-use crate::{MOST_CARDS, Seat};
+use crate::Seat;
 use cipher::{CARDS, Cipher};
 use draws::{LAST_START, drawn_after, next_lawful, shuffle};
 use permutation::blank::Blank;
-use permutation::{fill, is_permutation};
+use permutation::{MOST_CARDS, fill, is_permutation};
 
 impl KeyedSeat {
     pub fn new(key: u32, order: Vec<u8>) -> Result<KeyedSeat, SeatFault>

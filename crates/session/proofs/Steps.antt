@@ -2,10 +2,10 @@
 use Rattle.std.proofs.Common.{◌≡◌, ℕ, zero, suc, ◌<◌, Bool, true, Ok, Err, Result, sym, refl, ap, ◌∙◌, subst, inl, inr, arith}
 use Rattle.std.proofs.lemmas.Bool.{false≢true, eqb-true, and_parts, cases_eq}
 use Rattle.cipher.specs.Cipher.{CipherMeaning}
-use Rattle.cipher.specs.Answers.{lock_answer, undo_answer, code_answer}
+use Rattle.cipher.specs.Answers.{lock_answer, undo_answer, code_answer, under_undo, unlock_answer}
 use Rattle.cipher.specs.declared.fault.CipherFault.{CipherFault}
 use Rattle.cipher.proofs.Answers.{lock_passed, undo_passed, code_passed}
-use Rattle.verdict.specs.Honesty.{gives, under_undo, unlock_answer, all_below, is_code, honest_show}
+use Rattle.verdict.specs.Honesty.{gives, all_below, is_code, honest_show}
 
 -- a test that all numbers below n pass
 pub below_passed : (n : ℕ) (test : ℕ → Bool) → all_below n test ≡ true → (i : ℕ) → i < n → test i ≡ true

@@ -11,7 +11,7 @@ use crate::call::Call;
 use crate::fault::TableFault;
 use crate::record::{Phase, Record};
 use crate::table::Table;
-use cipher::Cipher;
+use cipher::{CARDS, Cipher};
 use std::alloc::Global;
 
 impl Table {
@@ -20,7 +20,7 @@ impl Table {
     pub fn start(heap: Global, seats: u8, cards: u8) -> Result<Table, TableFault>
         ensures { MatchResult result (λ t. (within_limits seats cards ≡ true) × (state_of t ≡ empty_table seats cards)) (λ e. e ≡ (if within_limits seats cards then NoMemory else OutsideLimits)) }
     {
-        if !(2..=8).contains(&seats) || !(2..=52).contains(&cards) {
+        if !(2..=8).contains(&seats) || !(2..=CARDS).contains(&cards) {
             return Err(TableFault::OutsideLimits);
         }
         let s = usize::from(seats);

@@ -2,7 +2,7 @@
 use Rattle.std.specs.Prelude.{ℕ, zero, suc, Bool, true, false, cond, ◌&&◌, List, [], ◌∷◌, map, Ok, Err, Result, Option, Some, None, ◌==◌, slice_index}
 use Rattle.std.specs.Option.{option_or}
 use Rattle.cipher.specs.Cipher.{CipherMeaning}
-use Rattle.cipher.specs.Answers.{lock_answer, undo_answer, code_answer}
+use Rattle.cipher.specs.Answers.{lock_answer, unlock_answer, code_answer}
 use Rattle.cipher.specs.declared.fault.CipherFault.{CipherFault}
 use Rattle.permutation.specs.Permutation.{upto}
 use Rattle.table.specs.State.{Move, lock, draw, share, abandon, close, show, disclose}
@@ -15,14 +15,6 @@ use Rattle.verdict.specs.declared.Finding.{Finding}
 abbrev pub gives : Result ℕ CipherFault → ℕ → Bool
 gives (Ok w) v = w == v
 gives (Err fault) v = false
-
--- a lock taken off: the lock under the key's undo key
-abbrev pub under_undo : CipherMeaning → Result ℕ CipherFault → ℕ → Result ℕ CipherFault
-under_undo m (Ok undo) v = lock_answer m undo v
-under_undo m (Err fault) v = Err fault
-
-abbrev pub unlock_answer : CipherMeaning → ℕ → ℕ → Result ℕ CipherFault
-unlock_answer m k v = under_undo m (undo_answer m k) v
 
 -- every number below n passes the test
 abbrev pub all_below : ℕ → (ℕ → Bool) → Bool

@@ -2,18 +2,11 @@
 ghost use Rattle.std.specs.Prelude.{◌≡◌, ◌<◌};
 ghost use Rattle.table.specs.Model.{state_of_record};
 ghost use Rattle.verdict.specs.Tables.{told_of};
-ghost use Rattle.verdict.specs.Honesty.{unlock_answer, honest_share, honest_show};
+ghost use Rattle.verdict.specs.Honesty.{honest_share, honest_show};
 ghost use Rattle.verdict.specs.Forward.{honest_place_after, honest_lock_after};
 
 use crate::hearing::Hearing;
-use cipher::Cipher;
-use cipher::fault::CipherFault;
-
-fn unlock<C: Cipher>(cipher: &C, key: u32, value: u32) -> Result<u32, CipherFault>
-    ensures { result ≡ unlock_answer (C.Cipher.meaning cipher.now) key value }
-{
-    cipher.lock(cipher.undo_key(key)?, value)
-}
+use cipher::{Cipher, unlock};
 
 impl<C: Cipher> Hearing<'_, C> {
     // Whether a lock entered at a place what it takes from the deck before it.

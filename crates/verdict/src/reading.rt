@@ -1,5 +1,5 @@
 // Reading a record. What it does not hold is read as 0, so that no reading can fail.
-ghost use Rattle.std.specs.Prelude.{◌≡◌, ◌<◌, ◌==◌, slice_index, position};
+ghost use Rattle.std.specs.Prelude.{◌≡◌, ◌+◌, ◌*◌, ◌^◌, ◌<◌, ◌==◌, slice_index, slice_index_or, position};
 ghost use Rattle.table.specs.State.{draw_at};
 ghost use Rattle.table.specs.Model.{state_of_record};
 ghost use Rattle.verdict.specs.Tables.{part, disclosure_of, told_of};
@@ -7,6 +7,18 @@ ghost use Rattle.verdict.specs.Forward.{deck_after};
 
 use crate::hearing::Hearing;
 use cipher::Cipher;
+
+// An item of one of the parts, each so long, that stand one after the other.
+fn part_item<T: Copy>(items: &[T], number: usize, long: u8, place: u8, none: T) -> T
+    requires { number * long + place < 2 ^ 64 }
+    ensures { result ≡ slice_index_or items.now (number * long + place) none }
+{
+    let start = number * usize::from(long);
+    items
+        .get(start + usize::from(place))
+        .copied()
+        .unwrap_or(none)
+}
 
 impl<C> Hearing<'_, C> {
     // Who drew, and the chain value.
@@ -45,9 +57,8 @@ impl<C> Hearing<'_, C> {
         requires within { place < self.now.record.now.cards }
         ensures { result ≡ slice_index ((told_of (state_of_record self.now.record.now)).order seat) place }
     {
-        let start = self.disclosure_or_end(seat) * usize::from(self.record.cards);
-        let place = start + usize::from(place);
-        self.record.orders.get(place).copied().unwrap_or(0)
+        let order = self.disclosure_or_end(seat);
+        part_item(&self.record.orders, order, self.record.cards, place, 0)
     }
 
     // The value at a place of the deck that a lock entered.
@@ -55,9 +66,8 @@ impl<C> Hearing<'_, C> {
         requires within { place < self.now.record.now.cards }
         ensures { result ≡ slice_index (part self.now.record.now.cards lock self.now.record.now.decks.items) place }
     {
-        let start = usize::from(lock) * usize::from(self.record.cards);
-        let place = start + usize::from(place);
-        self.record.decks.get(place).copied().unwrap_or(0)
+        let lock = usize::from(lock);
+        part_item(&self.record.decks, lock, self.record.cards, place, 0)
     }
 }
 
