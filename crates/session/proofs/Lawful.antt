@@ -32,6 +32,10 @@ table_law m laws S D within log all =
       };
     }
 
+-- of a whole list of calls
+pub run_law : (m : CipherMeaning) → CipherLaws m → (S D : ℕ) (calls : List Asked) → within_limits S D ≡ true → TableLaw m S D (accepted m S D [] calls)
+run_law m laws S D calls within = table_law m laws S D within _ (run_accepted m S D calls [] tt)
+
 pub cards_agree : (m : CipherMeaning) → CipherLaws m → (S D : ℕ) → within_limits S D ≡ true
     → (log : Log) → Accepted m S D log
     → (m' : CipherMeaning) → CipherLaws m' → (S' D' : ℕ) → within_limits S' D' ≡ true
