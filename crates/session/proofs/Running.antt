@@ -1,15 +1,15 @@
 -- A run on a table goes as the rules say of its log.
-use Rattle.std.proofs.Common.{◌≡◌, ℕ, ◌+◌, ◌<◌, true, List, [], ◌∷◌, ◌++◌, map, length, get_or, take, Ok, Err, Result, sym, refl, ap, ◌∙◌, subst}
-use Rattle.std.proofs.lemmas.List.{map_more}
+use Rattle.std.proofs.Common.{◌≡◌, ℕ, ◌+◌, ◌<◌, ◌≤◌, true, List, [], ◌∷◌, ◌++◌, map, length, get_or, take, Ok, Err, Result, sym, refl, ap, ◌∙◌, subst}
+use Rattle.std.proofs.lemmas.List.{map_more, take_all}
 use Rattle.cipher.specs.Cipher.{CipherMeaning}
-use Rattle.table.specs.State.{Move, lock, draw, share, abandon, close, show, disclose, State}
-use Rattle.table.specs.View.{View}
-use Rattle.table.specs.Rules.{Answer, judge, after, within_limits}
-use Rattle.table.specs.Rules.{judged}
+use Rattle.table.specs.State.{Move, State}
+use Rattle.table.specs.View.{View, view_of}
+use Rattle.table.specs.Rules.{Answer, judged, judge, after, within_limits}
 use Rattle.table.specs.declared.fault.TableFault.{TableFault}
 use Rattle.verdict.specs.Log.{Log}
+use Rattle.verdict.specs.Tables.{audit_answer}
 use Rattle.session.specs.Runs.{Asked, move, audit, view, reply, joined, answer, with_call, answers, accepted}
-use Rattle.session.specs.Steps.{asked_by, step_answer, step_after}
+use Rattle.session.specs.Steps.{asked_by, step_answer, step_after, Tells}
 use Rattle.session.specs.declared.Step.{Step}
 use Rattle.session.specs.declared.Reply.{Reply}
 use Rattle.session.specs.declared.Reply.TheVariants.{Entered, Audited}
@@ -69,3 +69,19 @@ module _ (m : CipherMeaning) (S D : ℕ) where
       let calls = map asked_by (take i steps) in
       let one_more = map_more asked_by steps i x below ∙ ap (λ (y : Step). calls ++ (asked_by y ∷ [])) (sym is) in
       subst (λ cs. Ran cs then u) (sym one_more) (subst (λ rs. Ran (calls ++ (asked_by x ∷ [])) rs u) (sym pushed) (ran_more limits calls replies t u (asked_by x) r ran answered made))
+
+  -- a script whose steps were all made, and what the table tells of them
+  pub ran_whole : within_limits S D ≡ true → (steps gone : List Step) → gone ≡ steps → (i : ℕ) (replies : List (Result Reply TableFault)) (t : State)
+      → length gone ≤ i → Ran (map asked_by (take i gone)) replies t
+      → (replies ≡ answers m S D [] (map asked_by steps)) × Tells t S D (accepted m S D [] (map asked_by steps))
+  ran_whole limits steps gone same i replies t past so_far =
+      let calls = map asked_by steps in
+      let log = accepted m S D [] calls in
+      let all = run_accepted m S D calls [] tt in
+      let ran = subst (λ ys. Ran (map asked_by ys) replies t) (take_all i gone past ∙ same) so_far in (
+        ran.answered,
+        record {
+          shows = ap view_of ran.stands ∙ view_kept m S D limits log all;
+          audited = λ n. ap (λ s. reply Audited (audit_answer n s)) ran.stands ∙ ap (reply Audited) (audit_kept m S D limits log all n);
+        },
+      )

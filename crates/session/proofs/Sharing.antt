@@ -19,6 +19,14 @@ within_cons : (n x : ℕ) (xs : List ℕ) → x < n → Within n xs → Within n
 within_cons n x xs first rest zero h = first
 within_cons n x xs first rest (suc i) h = rest i (omega arith)
 
+-- none of them is n or more
+count_past : (n x : ℕ) (xs : List ℕ) → Within n xs → n ≤ x → count x xs ≡ 0
+count_past n x [] within past = refl
+count_past n x (y ∷ xs) within past =
+    let here = within 0 (omega arith) in
+    let rest = count_past n x xs (λ i h. within (suc i) (omega arith)) past in
+    grind (arith, nat_tests, count_cons x y xs)
+
 -- those who have taken their locks off a drawn card once it is shown: the drawer and the sharers
 abbrev pub takers : Drawn → List ℕ
 takers d = d.drawer ∷ d.sharers
@@ -81,6 +89,10 @@ module _ (S : ℕ) where
   -- no draw has two shares of one seat
   pub shared_once : (d : Drawn) → Fair S d → (s : ℕ) → count s d.sharers ≤ 1
   shared_once d fair s = omega (arith, fair.once s, count_cons s d.drawer d.sharers)
+
+  -- nor one of a seat that there is not
+  pub shared_by_seats : (d : Drawn) → Fair S d → (s : ℕ) → S ≤ s → count s d.sharers ≡ 0
+  shared_by_seats d fair s past = omega (arith, count_past S s (takers d) fair.seats past, count_cons s d.drawer d.sharers)
 
 module _ (m : CipherMeaning) (S D : ℕ) (some_seat : 1 ≤ S) where
   -- the last draw, and so every draw, is fair

@@ -108,12 +108,13 @@ module _ (m : CipherMeaning) (S D : ℕ) (log : Log) where
       by None is later rest = newest_named x before (within x before (newest x before)) entry seat kind is later
       by (Some found) is later rest = rest (is ∙ later)
 
-  module _ (all : Accepted m S D log) (some_seat : 1 ≤ S) (disclosed : AllDisclosed m S D log) where
+  -- the moves may have been accepted under another cipher
+  module _ (n : CipherMeaning) (all : Accepted n S D log) (some_seat : 1 ≤ S) (disclosed : AllDisclosed m S D log) where
     -- once all have disclosed, an audit is answered by the verdict
     answered_by : (v : Verdict) → verdict m D said log ≡ v → answer m S D log audit ≡ Ok (Audited v)
     answered_by v is =
         let enough = disclosed_enough S log disclosed in
-        let phase = disclosed_audit m S D log all (omega arith) in
+        let phase = disclosed_audit n S D log all (omega arith) in
         let ready = le-leb S (disclosures log) enough in
         cc
 

@@ -1,10 +1,12 @@
 // Lists of calls made on new tables, and the law over the runs of any two.
 #![tactic(auto)]
 
-ghost use Rattle.std.specs.Prelude.{◌≡◌};
+ghost use Rattle.std.specs.Prelude.{◌≡◌, true, []};
 ghost use Rattle.table.specs.Model.{state_of};
-ghost use Rattle.session.specs.Steps.{asked_by, calls_of, step_answer, step_after, RunAnswer};
-ghost use Rattle.session.specs.Law.{RunsLaw};
+ghost use Rattle.table.specs.Rules.{within_limits};
+ghost use Rattle.session.specs.Runs.{accepted};
+ghost use Rattle.session.specs.Steps.{asked_by, calls_of, step_answer, step_after, RunAnswer, Played, AuditAnswer};
+ghost use Rattle.session.specs.Law.{TableLaw, RunsLaw};
 
 use cipher::Cipher;
 use std::alloc::Global;
@@ -63,16 +65,43 @@ fn answer<C: Cipher>(table: &mut Table, cipher: &C, step: &Step) -> Result<Reply
     }
 }
 
-// Makes each call of the script on a new table, and tells what each answered.
-pub fn run<C: Cipher>(heap: Global, cipher: &C, script: &Script) -> Replies
-    ensures { RunAnswer (C.Cipher.meaning cipher.now) script.now result }
+// A new table on which each call of the script was made, and what each answered.
+fn played<C: Cipher>(
+    heap: Global,
+    cipher: &C,
+    script: &Script,
+) -> Result<(Table, Vec<Result<Reply, TableFault>>), TableFault>
+    ensures { Played (C.Cipher.meaning cipher.now) script.now result }
 {
     let mut table = Table::start(heap, script.seats, script.cards)?;
     let mut replies = Vec::with_capacity(heap, script.steps.len())?;
     for step in script.steps.iter() {
         replies.push_reserved(answer(&mut table, cipher, step));
     }
+    Ok((table, replies))
+}
+
+// Makes each call of the script on a new table, and tells what each answered.
+pub fn run<C: Cipher>(heap: Global, cipher: &C, script: &Script) -> Replies
+    ensures { RunAnswer (C.Cipher.meaning cipher.now) script.now result }
+{
+    let (_, replies) = played(heap, cipher, script)?;
     Ok(replies)
+}
+
+// Makes each call of the script on a new table, and then audits the table under a cipher of the
+// auditor's, which may be another.
+pub fn run_and_audit<C: Cipher, A: Cipher>(
+    heap: Global,
+    cipher: &C,
+    script: &Script,
+    auditor: &A,
+) -> Result<Result<Option<Finding>, TableFault>, TableFault>
+    ensures answer { AuditAnswer (C.Cipher.meaning cipher.now) (A.Cipher.meaning auditor.now) script.now result }
+    ensures law { within_limits script.now.seats script.now.cards ≡ true → TableLaw (C.Cipher.meaning cipher.now) script.now.seats script.now.cards (accepted (C.Cipher.meaning cipher.now) script.now.seats script.now.cards [] (calls_of script.now)) }
+{
+    let (table, _) = played(heap, cipher, script)?;
+    Ok(audit(&table, auditor))
 }
 
 // Runs two scripts, each under a cipher of its own, which may be the same. Whatever was refused,

@@ -3,12 +3,13 @@ use crate::calls::{BINARY, FIRST_LOCK, PRIME};
 use crate::hands::{FIRST, next_reply};
 use crate::honest::{known, mixed};
 use cipher::Cipher;
-use session::{Replies, Reply, Script, Step, run, run_two};
+use session::{Replies, Reply, Script, Step, run, run_and_audit, run_two};
 use std::alloc::Global;
 use std::process::Abort;
 use std::test::Fail;
 use table::call::Call;
 use table::fault::TableFault;
+use table::record::Phase;
 use table::table::Table;
 use verdict::audit;
 
@@ -33,6 +34,12 @@ fn check_ciphers<C: Cipher, D: Cipher>(
     let table = played(rt.alloc(), cipher, script)?;
     assert_eq!(rt; audit(&table, cipher), Ok(None));
     assert_eq!(rt; audit(&table, other), Ok(Some(FIRST_LOCK)));
+    let heap = rt.alloc();
+    assert_eq!(rt; run_and_audit(heap, cipher, script, cipher), Ok(Ok(None)));
+    assert_eq!(rt;
+        run_and_audit(heap, cipher, script, other),
+        Ok(Ok(Some(FIRST_LOCK)))
+    );
     Ok(())
 }
 
@@ -43,6 +50,23 @@ fn other_cipher(rt: HostRuntime) -> Result<(), Fail> {
     check_ciphers(&rt, &PRIME, &BINARY, &known(heap, &PRIME, (5, 5))?)?;
     check_ciphers(&rt, &BINARY, &PRIME, &known(heap, &BINARY, (5, 5))?)?;
     check_ciphers(&rt, &BINARY, &PRIME, &known(heap, &BINARY, (7, 5))?)
+}
+
+// Before the last phase, while disclosures are missing, and where there is no table.
+#[test]
+fn audits_refused(rt: HostRuntime) -> Result<(), Fail> {
+    let mut script = known(rt.alloc(), &PRIME, (5, 5))?;
+    let _ = script.steps.pop();
+    let _ = script.steps.pop();
+    let few = run_and_audit(rt.alloc(), &PRIME, &script, &BINARY);
+    assert_eq!(rt; few, Ok(Err(TableFault::FewDisclosures(1))));
+    script.steps.truncate(2);
+    let early = run_and_audit(rt.alloc(), &PRIME, &script, &BINARY);
+    assert_eq!(rt; early, Ok(Err(TableFault::WrongPhase(Phase::Dealing))));
+    script.seats = 9;
+    let none = run_and_audit(rt.alloc(), &PRIME, &script, &BINARY);
+    assert_eq!(rt; none, Err(TableFault::OutsideLimits));
+    Ok(())
 }
 
 fn check_same(rt: &impl Abort, replies: Replies, due: Replies) {

@@ -3,7 +3,7 @@ use Rattle.table.specs.Rules.{within_limits}
 use Rattle.table.specs.Model.{state_of}
 use Rattle.session.specs.Steps.{asked_by}
 use Rattle.session.proofs.Running.{Ran}
-use Rattle.session.proofs.run.Given as goal
+use Rattle.session.proofs.played.Given as goal
 
 abbrev pub invariant-loop-step : goal.invariant-loop-step
 invariant-loop-step g l =
