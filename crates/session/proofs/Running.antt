@@ -17,6 +17,10 @@ use Rattle.session.proofs.Accepted.{Accepted, run_accepted}
 use Rattle.session.proofs.Replay.{replay}
 use Rattle.session.proofs.Kept.{view_kept, audit_kept}
 
+-- a state is judged as its view is
+pub judge_viewed : (m : CipherMeaning) (t : State) (x : Move) → judge m t x ≡ judged m (view_of t) x
+judge_viewed m t x = refl
+
 module _ (m : CipherMeaning) (S D : ℕ) where
   -- one call more
   accepted_more : (calls : List Asked) (c : Asked) (log : Log) → accepted m S D log (calls ++ (c ∷ [])) ≡ with_call m S D (accepted m S D log calls) c
@@ -29,7 +33,7 @@ module _ (m : CipherMeaning) (S D : ℕ) where
 
   module _ (limits : within_limits S D ≡ true) (log : Log) (all : Accepted m S D log) where
     judge_kept : (x : Move) → judge m (replay S D log) x ≡ judged m (view S D log) x
-    judge_kept x = ap (λ (v : View). judged m v x) (view_kept m S D limits log all)
+    judge_kept x = judge_viewed m (replay S D log) x ∙ ap (λ (v : View). judged m v x) (view_kept m S D limits log all)
 
     answer_kept : (c : Asked) → step_answer m (replay S D log) c ≡ answer m S D log c
     answer_kept (move x) = ap (reply Entered) (judge_kept x)

@@ -179,8 +179,8 @@ impl Table {
         }
         check_deck(cipher, deck).map_err(|fault| SeatedFault { seat, fault })?;
         let entry = self.entry_number();
-        // the room was reserved when the table was started
-        let _ = self.held.decks.extend_from_slice(deck);
+        // never refused, since the room was reserved when the table was started
+        self.held.decks.extend_from_slice(deck)?;
         self.held.locked += 1;
         self.held.phase = if self.held.locked == self.held.seats {
             Phase::Dealing
@@ -218,10 +218,11 @@ impl Table {
             return Err(TableFault::NotOrder);
         }
         let entry = self.entry_number();
+        // never refused either
+        self.held.orders.extend_from_slice(order)?;
         self.held
             .disclosures
             .push_reserved(Disclosure { seat, key });
-        let _ = self.held.orders.extend_from_slice(order);
         self.held.moves.push_reserved(Event::Disclose { seat, key });
         Ok(entry)
     }
