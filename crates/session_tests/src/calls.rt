@@ -88,9 +88,9 @@ pub fn script(heap: Global, size: (u8, u8), list: &[(Ask, Due)]) -> Result<Scrip
     })
 }
 
-// `?` takes no error that holds a step to a failure.
-pub fn push(steps: &mut Vec<Step>, step: Step) -> Result<(), AllocError> {
-    steps.push(step)?;
+// `?` takes no error that holds an item to a failure.
+pub fn push<T: Drop>(to: &mut Vec<T>, item: T) -> Result<(), AllocError> {
+    to.push(item)?;
     Ok(())
 }
 

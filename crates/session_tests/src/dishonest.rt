@@ -130,27 +130,27 @@ fn known_hand_spoilt(rt: HostRuntime) -> Result<(), Fail> {
 }
 
 // The seat of a draw by its number.
-fn drawer(steps: &[Step], number: u8) -> u8 {
-    let mut left = number;
-    for step in steps {
-        if let Step::Move(Call::Draw { seat, .. }) = step {
-            if left == 0 {
-                return *seat;
-            }
-            left -= 1;
-        }
-    }
-    255
+fn drawer(steps: &[Step], number: u8) -> Option<u8> {
+    steps
+        .iter()
+        .filter_map(|step| match step {
+            Step::Move(Call::Draw { seat, .. }) => Some(*seat),
+            _ => None,
+        })
+        .nth(usize::from(number))
 }
 
 // Who is to blame for a call, and its kind, if it can be dishonest.
-fn blame(steps: &[Step], at: usize) -> Option<(u8, Kind)> {
-    match steps.get(at)? {
-        Step::Move(Call::Lock { seat, .. }) => Some((*seat, Kind::Lock)),
-        Step::Move(Call::Share { seat, .. }) => Some((*seat, Kind::Share)),
-        Step::Move(Call::Show { draw, .. }) => Some((drawer(steps, *draw), Kind::Show)),
+fn blame(steps: &[Step], at: usize) -> Result<Option<(u8, Kind)>, Fail> {
+    Ok(match steps.get(at) {
+        Some(Step::Move(Call::Lock { seat, .. })) => Some((*seat, Kind::Lock)),
+        Some(Step::Move(Call::Share { seat, .. })) => Some((*seat, Kind::Share)),
+        Some(Step::Move(Call::Show { draw, .. })) => {
+            let seat = drawer(steps, *draw).ok_or("no draw")?;
+            Some((seat, Kind::Show))
+        }
         _ => None,
-    }
+    })
 }
 
 // Spoils one call of the mixed hand. Those after its 45 calls of the dealing have one close
@@ -161,7 +161,7 @@ fn check_mixed<C: Cipher>(
     at: usize,
 ) -> Result<(), Fail> {
     let mut script = mixed(rt.alloc(), cipher)?;
-    let Some((seat, kind)) = blame(&script.steps, at) else {
+    let Some((seat, kind)) = blame(&script.steps, at)? else {
         return Ok(());
     };
     let entry = if at < 45 { at } else { at.wrapping_sub(1) };

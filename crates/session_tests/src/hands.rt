@@ -16,8 +16,9 @@ use verdict::Finding;
 // A hand in the making: what was called, the last deck, the composed order, and the card of each
 // draw.
 #[derive(Drop)]
-pub struct Hand {
+pub struct Hand<'a, C> {
     heap: Global,
+    cipher: &'a C,
     seats: Vec<AnySeat>,
     steps: Vec<Step>,
     deck: Vec<u32>,
@@ -31,31 +32,24 @@ fn order_of(heap: Global, seat: &AnySeat) -> Result<Vec<u8>, Fail> {
     Ok(order)
 }
 
-impl Hand {
-    pub fn new(heap: Global) -> Hand {
-        Hand {
+impl<'a, C: Cipher> Hand<'a, C> {
+    // So many cards, and nothing done.
+    pub fn start(heap: Global, cipher: &'a C, cards: u8) -> Result<Hand<'a, C>, Fail> {
+        Ok(Hand {
             heap,
+            cipher,
             seats: Vec::new(heap),
             steps: Vec::new(heap),
-            deck: Vec::new(heap),
-            cards: Vec::new(heap),
+            deck: (0..cards)
+                .map(|card| cipher.code(card).unwrap_or(0))
+                .collect(heap)?,
+            cards: (0..cards).collect(heap)?,
             drawn: Vec::new(heap),
-        }
-    }
-
-    // So many cards, and nothing done.
-    pub fn start<C: Cipher>(heap: Global, cipher: &C, cards: u8) -> Result<Hand, Fail> {
-        let mut hand = Hand::new(heap);
-        for card in 0..cards {
-            hand.deck.push(cipher.code(card).unwrap_or(0))?;
-            hand.cards.push(card)?;
-        }
-        Ok(hand)
+        })
     }
 
     fn call(&mut self, call: Call) -> Result<(), AllocError> {
-        self.steps.push(Step::Move(call))?;
-        Ok(())
+        push(&mut self.steps, Step::Move(call))
     }
 
     // The composed order is rearranged by the seat's.
@@ -68,28 +62,23 @@ impl Hand {
     }
 
     // The next seat locks.
-    fn lock<C: Cipher>(&mut self, cipher: &C, seat: &AnySeat) -> Result<(), Fail> {
+    fn lock(&mut self, seat: &AnySeat) -> Result<(), Fail> {
         let mut deck = vec![in self.heap; 0u32; self.deck.len()]?;
-        seat.lock(cipher, &self.deck, &mut deck)?;
+        seat.lock(self.cipher, &self.deck, &mut deck)?;
         self.deck = deck.clone()?;
         let seat = (self.seats.len() & 255) as u8;
         Ok(self.call(Call::Lock { seat, deck })?)
     }
 
-    pub fn seat<C: Cipher>(&mut self, cipher: &C, seat: AnySeat) -> Result<(), Fail> {
+    pub fn seat(&mut self, seat: AnySeat) -> Result<(), Fail> {
         self.compose(&seat)?;
-        self.lock(cipher, &seat)?;
-        Ok(self.sit(seat)?)
+        self.lock(&seat)?;
+        Ok(push(&mut self.seats, seat)?)
     }
 
-    fn sit(&mut self, seat: AnySeat) -> Result<(), AllocError> {
-        self.seats.push(seat)?;
-        Ok(())
-    }
-
-    fn share<C: Cipher>(&mut self, cipher: &C, number: u8, chain: u32) -> Result<u32, Fail> {
+    fn share(&mut self, number: u8, chain: u32) -> Result<u32, Fail> {
         let sharer = self.seats.get(usize::from(number)).ok_or("no seat")?;
-        let value = sharer.unlock(cipher, chain)?;
+        let value = sharer.unlock(self.cipher, chain)?;
         self.call(Call::Share {
             seat: number,
             value,
@@ -99,33 +88,29 @@ impl Hand {
 
     // A seat draws a place, and the others of those named share in turn. Where some seat does
     // not, the draw is abandoned.
-    pub fn deal<C: Cipher>(
-        &mut self,
-        cipher: &C,
-        seat: u8,
-        place: u8,
-        sharers: &[u8],
-    ) -> Result<(), Fail> {
+    pub fn deal(&mut self, seat: u8, place: u8, sharers: &[u8]) -> Result<(), Fail> {
         let at = usize::from(place);
         self.drawn.push(self.cards.get(at).copied().unwrap_or(255))?;
         let mut value = self.deck.get(at).copied().unwrap_or(0);
-        let mut left = self.seats.len();
         self.call(Call::Draw { seat, place })?;
-        for sharer in sharers {
-            if *sharer != seat && usize::from(*sharer) < self.seats.len() {
-                value = self.share(cipher, *sharer, value)?;
-                left = left.saturating_sub(1);
-            }
+        let seats = self.seats.len();
+        let others: Vec<u8> = sharers
+            .iter()
+            .copied()
+            .filter(|sharer| *sharer != seat && usize::from(*sharer) < seats)
+            .collect(self.heap)?;
+        for sharer in &others {
+            value = self.share(*sharer, value)?;
         }
-        if left > 1 {
+        if seats.saturating_sub(others.len()) > 1 {
             self.call(Call::Abandon)?;
         }
         Ok(())
     }
 
-    fn disclose<C: Cipher>(&mut self, cipher: &C, number: u8) -> Result<(), Fail> {
+    fn disclose(&mut self, number: u8) -> Result<(), Fail> {
         let seat = self.seats.get(usize::from(number)).ok_or("no seat")?;
-        let key = seat.key(cipher);
+        let key = seat.key(self.cipher);
         let order = order_of(self.heap, seat)?;
         Ok(self.call(Call::Disclose {
             seat: number,
@@ -148,15 +133,10 @@ impl Hand {
     }
 
     // The rest of the hand: the draws that are shown, and the seats that disclose.
-    pub fn end<C: Cipher>(
-        mut self,
-        cipher: &C,
-        shown: &[u8],
-        disclosed: &[u8],
-    ) -> Result<Script, Fail> {
+    pub fn end(mut self, shown: &[u8], disclosed: &[u8]) -> Result<Script, Fail> {
         self.close_and_show(shown)?;
         for seat in disclosed {
-            self.disclose(cipher, *seat)?;
+            self.disclose(*seat)?;
         }
         push(&mut self.steps, Step::Audit)?;
         Ok(Script {
@@ -172,11 +152,16 @@ pub fn keyed(heap: Global, key: u32, order: &[u8]) -> Result<AnySeat, Fail> {
 }
 
 // So many seats, whose keys and orders come from starts, have locked.
-pub fn seated<C: Cipher>(heap: Global, cipher: &C, seats: u8, cards: u8) -> Result<Hand, Fail> {
+pub fn seated<C: Cipher>(
+    heap: Global,
+    cipher: &C,
+    seats: u8,
+    cards: u8,
+) -> Result<Hand<'_, C>, Fail> {
     let mut hand = Hand::start(heap, cipher, cards)?;
     for number in 0..seats {
         let seat = GeneratorSeat::new(u32::from(number) * 8000000 + 192, cards)?;
-        hand.seat(cipher, AnySeat::Generator(seat))?;
+        hand.seat(AnySeat::Generator(seat))?;
     }
     Ok(hand)
 }

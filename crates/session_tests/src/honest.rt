@@ -38,22 +38,22 @@ fn known_hand(rt: HostRuntime) -> Result<(), Fail> {
 // The known hand under a cipher, its values made by seats with these keys.
 pub fn known<C: Cipher>(heap: Global, cipher: &C, keys: (u32, u32)) -> Result<Script, Fail> {
     let mut hand = Hand::start(heap, cipher, 3)?;
-    hand.seat(cipher, keyed(heap, keys.0, &[1, 2, 0])?)?;
-    hand.seat(cipher, keyed(heap, keys.1, &[0, 2, 1])?)?;
-    hand.deal(cipher, 1, 1, &[0])?;
-    hand.deal(cipher, 0, 0, &[1])?;
-    hand.end(cipher, &[0, 1], &[1, 0])
+    hand.seat(keyed(heap, keys.0, &[1, 2, 0])?)?;
+    hand.seat(keyed(heap, keys.1, &[0, 2, 1])?)?;
+    hand.deal(1, 1, &[0])?;
+    hand.deal(0, 0, &[1])?;
+    hand.end(&[0, 1], &[1, 0])
 }
 
 // The sum of the shares.
 fn shared(steps: &[Step]) -> u64 {
-    let mut sum = 0u64;
-    for step in steps {
-        if let Step::Move(Call::Share { value, .. }) = step {
-            sum = sum.wrapping_add(u64::from(*value));
-        }
-    }
-    sum
+    steps
+        .iter()
+        .filter_map(|step| match step {
+            Step::Move(Call::Share { value, .. }) => Some(u64::from(*value)),
+            _ => None,
+        })
+        .fold(0u64, |sum, value| sum.wrapping_add(value))
 }
 
 fn check_known<C: Cipher>(
@@ -87,9 +87,9 @@ static DEALS: [(u8, u8, &[u8]); 6] = [
 pub fn mixed<C: Cipher>(heap: Global, cipher: &C) -> Result<Script, Fail> {
     let mut hand = seated(heap, cipher, 8, 52)?;
     for (seat, place, sharers) in &DEALS {
-        hand.deal(cipher, *seat, *place, sharers)?;
+        hand.deal(*seat, *place, sharers)?;
     }
-    hand.end(cipher, &[5, 0, 2], &[4, 7, 0, 2, 6, 1, 3, 5])
+    hand.end(&[5, 0, 2], &[4, 7, 0, 2, 6, 1, 3, 5])
 }
 
 #[test]
@@ -104,11 +104,11 @@ fn full<C: Cipher>(heap: Global, cipher: &C, seats: u8, cards: u8) -> Result<Scr
     let mut hand = seated(heap, cipher, seats, cards)?;
     for place in 0..cards {
         let seat = place % seats.max(1);
-        hand.deal(cipher, seat, place, &[6, 1, 0, 7, 5, 2, 4, 3])?;
+        hand.deal(seat, place, &[6, 1, 0, 7, 5, 2, 4, 3])?;
     }
     let draws: Vec<u8> = (0..cards).rev().collect(heap)?;
     let disclosed: Vec<u8> = (0..seats).rev().collect(heap)?;
-    hand.end(cipher, &draws, &disclosed)
+    hand.end(&draws, &disclosed)
 }
 
 fn check_full<C: Cipher>(rt: &(impl Abort + AllocGlobal), cipher: &C) -> Result<(), Fail> {

@@ -195,7 +195,7 @@ fn values_and_keys_over_binary(rt: HostRuntime) -> Result<(), Fail> {
 // So many seats disclose, the last of them first, and then the hand is audited.
 fn audited(heap: Global, seats: u8, count: usize) -> Result<Script, Fail> {
     let disclosed: Vec<u8> = (0..seats).rev().take(count).collect(heap)?;
-    seated(heap, &PRIME, seats, 3)?.end(&PRIME, &[], &disclosed)
+    seated(heap, &PRIME, seats, 3)?.end(&[], &disclosed)
 }
 
 fn check_count(rt: &(impl Abort + AllocGlobal), seats: u8, count: u8) -> Result<(), Fail> {
