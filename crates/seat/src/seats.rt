@@ -7,11 +7,11 @@ ghost use Rattle.seat.specs.Generator.{generator_answer};
 ghost use Rattle.seat.specs.Kinds.{keyed_meaning, generator_meaning, any_meaning};
 ghost use Rattle.seat.specs.Laws.{keyed_laws, drawn_laws, any_laws};
 
+use crate::Seat;
 use crate::any::AnySeat;
 use crate::fault::SeatFault;
 use crate::generator::GeneratorSeat;
 use crate::keyed::KeyedSeat;
-use crate::Seat;
 use cipher::{CARDS, Cipher};
 use draws::{LAST_START, drawn_after, next_lawful, shuffle};
 use permutation::blank::Blank;

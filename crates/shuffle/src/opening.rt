@@ -7,8 +7,8 @@ ghost use Rattle.shuffle.specs.Shuffle.{Ready, Opens, opened_answer, locked_twic
 use cipher::{Cipher, read_card};
 use permutation::blank::Blank;
 use permutation::{MOST_CARDS, fill};
-use seat::fault::SeatFault;
 use seat::Seat;
+use seat::fault::SeatFault;
 
 // The cards 0, 1, 2 and so on, as many as there are places in the target, are locked by the first
 // seat and then by the second. What both of them open at each place is the card that the two
