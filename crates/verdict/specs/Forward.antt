@@ -25,9 +25,9 @@ module _ (m : CipherMeaning) (t : State) where
   abbrev pub deck_after : ℕ → List ℕ
   deck_after n = cond (n == 0) (first_deck m t.cards) (part t.cards (n - 1) t.decks)
 
-  -- a place of the deck that a lock with n locks before it entered
-  abbrev pub honest_place_after : ℕ → ℕ → ℕ → Bool
-  honest_place_after n s = honest_place m ((told_of t).key s) ((told_of t).order s) (deck_after n) (part t.cards n t.decks)
+  -- a place of the deck that a lock under this key with n locks before it entered
+  abbrev pub honest_place_after : ℕ → ℕ → ℕ → ℕ → Bool
+  honest_place_after key n s = honest_place m key ((told_of t).order s) (deck_after n) (part t.cards n t.decks)
 
   -- a lock with n locks before it
   abbrev pub honest_lock_after : ℕ → ℕ → Bool

@@ -9,13 +9,13 @@ use crate::hearing::Hearing;
 use cipher::{Cipher, unlock};
 
 impl<C: Cipher> Hearing<'_, C> {
-    // Whether a lock entered at a place what it takes from the deck before it.
-    fn honest_place(&self, locks: u16, seat: u8, place: u8) -> bool
+    // Whether a lock entered at a place what it takes from the deck before it, under the key.
+    fn honest_place(&self, key: u32, locks: u16, seat: u8, place: u8) -> bool
         requires { place < self.now.record.now.cards }
-        ensures { result ≡ honest_place_after (C.Cipher.meaning self.now.cipher.now) (state_of_record self.now.record.now) locks seat place }
+        ensures { result ≡ honest_place_after (C.Cipher.meaning self.now.cipher.now) (state_of_record self.now.record.now) key locks seat place }
     {
         let before = self.deck_value(locks, self.order_value(seat, place));
-        let due = self.cipher.lock(self.key_of(seat), before);
+        let due = self.cipher.lock(key, before);
         due == Ok(self.entered_value(locks, place))
     }
 
@@ -24,7 +24,8 @@ impl<C: Cipher> Hearing<'_, C> {
     pub(crate) fn honest_lock(&self, locks: u16, seat: u8) -> bool
         ensures { result ≡ honest_lock_after (C.Cipher.meaning self.now.cipher.now) (state_of_record self.now.record.now) locks seat }
     {
-        (0..self.record.cards).all(|place| self.honest_place(locks, seat, place))
+        let key = self.key_of(seat);
+        (0..self.record.cards).all(|place| self.honest_place(key, locks, seat, place))
     }
 
     // Whether a share is the chain value with the seat's lock taken off.
