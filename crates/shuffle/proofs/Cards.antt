@@ -51,6 +51,14 @@ accepted_before false b x y h = cc
 order_within : (s : SeatMeaning) → SeatLaws s → (n i : ℕ) → n ≡ s.size → i < n → get_or s.order i 0 < n
 order_within s laws n i same h = omega (arith, laws.sized, permutation_within s.order ((permutes_decides s.order).0 laws.ordered) i (omega (arith, laws.sized)))
 
+module _ (m : CipherMeaning) (s t : SeatMeaning) where
+  -- the code of the card c under both locks
+  pub record Locked (c v : ℕ) : Type 0 where
+    pub card : c < 52
+    pub first_lawful : Lawful m (s.key m)
+    pub second_lawful : Lawful m (t.key m)
+    pub is : v ≡ m.lock (t.key m) (m.lock (s.key m) (m.code c))
+
 module _ (m : CipherMeaning) (laws : CipherLaws m) where
   abbrev codes : ℕ → List ℕ
   codes n = map m.code (upto n)
@@ -72,15 +80,8 @@ module _ (m : CipherMeaning) (laws : CipherLaws m) where
   reads_card c v None few is reads = absurd (reads c few (sym is))
 
   module _ (s t : SeatMeaning) where
-    -- the code of the card c under both locks
-    record Locked (c v : ℕ) : Type 0 where
-      card : c < 52
-      first_lawful : Lawful m (s.key m)
-      second_lawful : Lawful m (t.key m)
-      is : v ≡ m.lock (t.key m) (m.lock (s.key m) (m.code c))
-
     -- the first seat's lock comes off below that of the second
-    first_opens : (c v : ℕ) → Locked c v → unlock_answer m s v ≡ Ok (m.lock (t.key m) (m.code c))
+    first_opens : (c v : ℕ) → Locked m s t c v → unlock_answer m s v ≡ Ok (m.lock (t.key m) (m.code c))
     first_opens c v l =
         let coded = laws.coded c l.card in
         let once = laws.locked (s.key m) (m.code c) l.first_lawful coded in
@@ -90,13 +91,13 @@ module _ (m : CipherMeaning) (laws : CipherLaws m) where
         ∙ laws.commute _ (t.key m) _ (laws.undo_lawful (s.key m) l.first_lawful) l.second_lawful once
         ∙ ap (m.lock (t.key m)) (laws.undone (s.key m) (m.code c) l.first_lawful coded))
 
-    second_opens : (c v : ℕ) → Locked c v → unlock_answer m t (m.lock (t.key m) (m.code c)) ≡ Ok (m.code c)
+    second_opens : (c v : ℕ) → Locked m s t c v → unlock_answer m t (m.lock (t.key m) (m.code c)) ≡ Ok (m.code c)
     second_opens c v l =
         let coded = laws.coded c l.card in
         cond-true _ _ _ l.second_lawful ∙ cond-true _ _ _ (laws.locked (t.key m) (m.code c) l.second_lawful coded)
         ∙ ap Ok (laws.undone (t.key m) (m.code c) l.second_lawful coded)
 
-    opens_card : (c v : ℕ) (r : Result (Option ℕ) SeatFault) → Locked c v → Opens m s t v r → r ≡ Ok (Some c)
+    pub opens_card : (c v : ℕ) (r : Result (Option ℕ) SeatFault) → Locked m s t c v → Opens m s t v r → r ≡ Ok (Some c)
     opens_card c v r l opens = by r (MatchResult-at_ok _ _ _ (second_opens c v l) (MatchResult-at_ok _ _ _ (first_opens c v l) opens))
       where
         by : (o : Result (Option ℕ) SeatFault) → IsOkAnd o (λ card. Reads m (m.code c) card) → o ≡ Ok (Some c)
@@ -125,7 +126,7 @@ module _ (m : CipherMeaning) (laws : CipherLaws m) where
       pub twice_length : Ready m s t n → length (locked_twice m s t n) ≡ n
       twice_length ready = length-map t.order _ ∙ lt.sized ∙ sym ready.second_sized
 
-      twice_at : Ready m s t n → (i : ℕ) → i < n → Locked (composed_at (s.order ∷ t.order ∷ []) i) (get_or (locked_twice m s t n) i 0)
+      twice_at : Ready m s t n → (i : ℕ) → i < n → Locked m s t (composed_at (s.order ∷ t.order ∷ []) i) (get_or (locked_twice m s t n) i 0)
       twice_at ready i h =
           let j = get_or t.order i 0 in
           let inside = order_within t lt n i ready.second_sized h in
@@ -137,10 +138,16 @@ module _ (m : CipherMeaning) (laws : CipherLaws m) where
                 ∙ ap (m.lock (t.key m)) (once_at ready.first_sized j inside);
           }
 
-      pub opened_at : (deck : List ℕ) (i : ℕ) (r : Result (Option ℕ) SeatFault) → Ready m s t n → deck ≡ locked_twice m s t n → i < n → Opens m s t (get_or deck i 0) r
+      -- whoever opens what is under both locks opens each place of the deck
+      pub opened_at : (deck : List ℕ) (i : ℕ) (r : Result (Option ℕ) SeatFault) → Ready m s t n → deck ≡ locked_twice m s t n → i < n → ((c : ℕ) → Locked m s t c (get_or deck i 0) → r ≡ Ok (Some c))
           → r ≡ Ok (Some (composed_at (s.order ∷ t.order ∷ []) i))
       opened_at deck i r ready locked h opens =
-          opens_card _ _ r (twice_at ready i h) (subst (λ (d : List ℕ). Opens m s t (get_or d i 0) r) locked opens)
+          opens _ (subst (λ (d : List ℕ). Locked m s t (composed_at (s.order ∷ t.order ∷ []) i) (get_or d i 0)) (sym locked) (twice_at ready i h))
+
+      -- and so do both seats
+      pub opens_at : (deck : List ℕ) (i : ℕ) (r : Result (Option ℕ) SeatFault) → Ready m s t n → deck ≡ locked_twice m s t n → i < n → Opens m s t (get_or deck i 0) r
+          → r ≡ Ok (Some (composed_at (s.order ∷ t.order ∷ []) i))
+      opens_at deck i r ready locked h opens = opened_at deck i r ready locked h (λ c under. opens_card c (get_or deck i 0) r under opens)
 
       -- the first seat is handed the codes
       first_answer : n ≤ 52 → lengths_then_key m (s.key m) s.size (codes n) n ≡ sized_then_key m (s.key m) s.size n
@@ -154,11 +161,16 @@ module _ (m : CipherMeaning) (laws : CipherLaws m) where
         first_refuses e h = refused_before (eqb n s.size) (m.lawful (s.key m)) e _ _ _ (h ∙ first_answers)
 
         -- and the second what the first made of them
-        pub second_answers : (once : List ℕ) → Ok tt ≡ lengths_then_key m (s.key m) s.size deck target → once ≡ locked_deck m (s.key m) s.order deck
+        pub second_answers : (once : List ℕ) → Ok tt ≡ lengths_then_key m (s.key m) s.size deck target → once ≡ locked_once m s n
             → lengths_then_key m (t.key m) t.size once n ≡ opened_answer m s t n
         second_answers once h locked =
             let a = accepted_before (eqb n s.size) (m.lawful (s.key m)) _ _ (h ∙ first_answers) in
             let sized = eqb-true n s.size a.0 in
-            ap (λ (d : List ℕ). lengths_then_key m (t.key m) t.size d n) (locked ∙ ap (locked_deck m (s.key m) s.order) coded)
+            ap (λ (d : List ℕ). lengths_then_key m (t.key m) t.size d n) locked
             ∙ lock_of_values m (t.key m) t.size (locked_once m s n) n (once_values sized a.1) (once_length sized)
             ∙ sym (cond-true _ _ _ a.0 ∙ cond-true _ _ _ a.1)
+
+        -- which it made of that deck
+        pub second_after_first : (once : List ℕ) → Ok tt ≡ lengths_then_key m (s.key m) s.size deck target → once ≡ locked_deck m (s.key m) s.order deck
+            → lengths_then_key m (t.key m) t.size once n ≡ opened_answer m s t n
+        second_after_first once h locked = second_answers once h (locked ∙ ap (locked_deck m (s.key m) s.order) coded)

@@ -18,6 +18,9 @@ module _ (seats : ℕ) where
   each_fair : (ds : List DrawRecord) → fair seats ds ≡ true → AllPass (λ d. fair_end d.end seats d.shares d.shown) ds
   each_fair ds h = AllPass-from_list_all (λ d. fair_end d.end seats d.shares d.shown) ds h
 
+  pub fair_at : (ds : List DrawRecord) (i : ℕ) → fair seats ds ≡ true → i < length ds → Fair (get_or ds i no_draw)
+  fair_at ds i h below = each_fair ds h i no_draw below
+
   pub fair_changed : (ds : List DrawRecord) (i : ℕ) (d : DrawRecord) → fair seats ds ≡ true → Fair d → fair seats (set ds i d) ≡ true
   fair_changed ds i d h end =
       list_all-from_AllPass (λ e. fair_end e.end seats e.shares e.shown) (set ds i d) (All-set Fair ds i d end (each_fair ds h))

@@ -11,7 +11,7 @@ module _ (test : ℕ → Bool) where
   all_pass zero h = refl
   all_pass (suc n) h = and_from (test n) (all_below n test) (h n (omega arith)) (all_pass n (λ i l. h i (omega arith)))
 
-  one_fails : (n i : ℕ) → i < n → test i ≡ false → all_below n test ≡ false
+  pub one_fails : (n i : ℕ) → i < n → test i ≡ false → all_below n test ≡ false
   one_fails zero i below h = absurd (omega arith)
   one_fails (suc n) i below h =
       elim (cases_eq n i) [

@@ -3,7 +3,7 @@ use Rattle.std.proofs.Common.{◌≡◌, [], ◌∷◌, length, ap, arith}
 use Rattle.std.proofs.lemmas.List.FromFn.{fill_by_all}
 use Rattle.std.proofs.lemmas.List.Edits.{fill_by_more}
 use Rattle.permutation.specs.Permutation.{composed_at}
-use Rattle.shuffle.proofs.Cards.{twice_length, opened_at}
+use Rattle.shuffle.proofs.Cards.{twice_length, opens_at}
 use Rattle.shuffle.proofs.opening.Pair.read_cards.Goals as goal
 
 pub bounds-deck-place : goal.bounds-deck-place
@@ -12,14 +12,14 @@ bounds-deck-place g c =
 
 pub returns-in_err-open_card : goal.returns-in_err-open_card
 returns-in_err-open_card g c =
-    let opened = opened_at _ (g.met.C.Cipher.lawful c.args.self.now.cipher.now) _ _ (g.met.S.Seat.seated c.args.self.now.first.now) (g.met.T.Seat.seated c.args.self.now.second.now) _ c.args.deck.now c.loop-place.place c.open_card.result
+    let opened = opens_at _ (g.met.C.Cipher.lawful c.args.self.now.cipher.now) _ _ (g.met.S.Seat.seated c.args.self.now.first.now) (g.met.T.Seat.seated c.args.self.now.second.now) _ c.args.deck.now c.loop-place.place c.open_card.result
     c.requires.ready c.requires.locked c.loop-place-test.true c.open_card.ensures in
     let was = c.in_err-open_card.was in
     cc
 
 pub loop-place-preserved : goal.loop-place-preserved
 loop-place-preserved g c =
-    let opened = opened_at _ (g.met.C.Cipher.lawful c.args.self.now.cipher.now) _ _ (g.met.S.Seat.seated c.args.self.now.first.now) (g.met.T.Seat.seated c.args.self.now.second.now) _ c.args.deck.now c.loop-place.place c.open_card.result
+    let opened = opens_at _ (g.met.C.Cipher.lawful c.args.self.now.cipher.now) _ _ (g.met.S.Seat.seated c.args.self.now.first.now) (g.met.T.Seat.seated c.args.self.now.second.now) _ c.args.deck.now c.loop-place.place c.open_card.result
     c.requires.ready c.requires.locked c.loop-place-test.true c.open_card.ensures in
     let was = c.in_ok-open_card.was in
     let card_at = composed_at ((g.S.Seat.meaning c.args.self.now.first.now).order ∷ (g.T.Seat.meaning c.args.self.now.second.now).order ∷ []) in
